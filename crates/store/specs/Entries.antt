@@ -1,6 +1,6 @@
 -- What a store does, by the list of entries that it means. Assumes nothing.
 use mathlib.Core.Bool.{cond}
-use mathlib.Core.List.{List}
+use mathlib.Core.List.{List, [], _∷_}
 use Prim.Native.Nat.{ℕ}
 use lib.ListN.{set}
 use Rattle.std.specs.declared.option.Option.{Option}
@@ -36,3 +36,9 @@ done (Err e) = Err e
 -- the entries after `put` of rule r into slot x
 abbrev pub put-into : List Entry → ℕ → Rule → List Entry
 put-into l x r = cond (isOk (got l x)) (set l x (Intact r)) l
+
+-- no entry is damaged, or the refusal of the first that is
+abbrev pub whole : List Entry → Result (Unit {0}) Refusal
+whole [] = Ok tt
+whole (Intact r ∷ l) = whole l
+whole (Broken d ∷ l) = Err (Damaged d)
