@@ -3,7 +3,6 @@
 // A store means a list of at most 64 entries, each a rule or a damage. One contract for `count`, `get` and `put`
 // holds of every store, for every slot and every rule, whether the slot is in the list or not.
 pub mod table;
-pub mod whole;
 
 ghost use mathlib.Core.Path.{_≡_};
 ghost use mathlib.Core.List.{List};

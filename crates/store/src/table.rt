@@ -55,14 +55,15 @@ impl TableStore {
     pub fn rows(&self) -> &[Parts]
         ensures { λ r. ⌜ now r ≡ vec-items (now (self .entry) .rows) ⌝ }
     {
-        self.rows.as_slice()
+        let all = self.rows.as_slice();
+        all
     }
 
     pub fn into_rows(self) -> Vec<Parts>
         ensures { λ r. ⌜ r ≡ self .rows ⌝ }
     {
-        let TableStore { rows } = self;
-        rows
+        let TableStore { rows: memory } = self;
+        memory
     }
 
     // How many rows count: none, where the check refuses them.
