@@ -1,22 +1,23 @@
 -- A block of rules that is laid out reads back as those rules. Assumes nothing.
 use mathlib.Core.Path.{_≡_, refl, sym, ap, _∙_}
-use mathlib.Core.Bool.{Bool, true, false, _&&_}
+use mathlib.Core.Bool.{true}
 use mathlib.Core.List.{List, [], _∷_, _++_}
 use Prim.Native.Nat.{ℕ, zero, suc, _+_, _-_, _*_, _≤_, _<_}
 use native.Mathlib.Omega.{arith}
 use borrow.Rule.Slice.PartMut.{putMid}
-use lib.Dec.{eqb}
-use lib.ListN.{length, getD, set, drop, take, replicate, length-append, length-replicate}
+use lib.ListN.{length, getD, drop, take, replicate, length-append, length-replicate}
 use Rattle.std.specs.Options.{isSome}
 use Rattle.std.specs.declared.option.Option.the-variants.{Some, None}
-use Rattle.std.specs.shelf.Lists.{joined, paste}
-use Rattle.std.proofs.shelf.Lists.{drop-drop, drop-at, take-at, drop-replicate, append-assoc, joined-more, replicate-more, length-push, take-all}
+use Rattle.std.specs.shelf.Lists.{joined, paste, All}
+use Rattle.std.proofs.shelf.Elements.{all-append}
+use Rattle.std.proofs.shelf.Lists.{drop-drop, drop-at, take-at, drop-replicate, joined-more, replicate-more, length-push, take-all}
 use Rattle.std.proofs.shelf.Tests.{and-from, eq-eqb}
 use Rattle.rule.specs.declared.Rule.{Rule}
-use Rattle.rule.specs.Making.{open-rule}
-use Rattle.block.specs.Layout.{rule-in, rule-at, record-bytes, record-start, all-zero, rules-below, head-right, body-right, damage-of, with-check, sealed, laid-out, WrittenReadsBack}
+use Rattle.rule.specs.Making.{parts-of, facts, open-rule}
+use Rattle.rule.proofs.Rules.{rule-makes}
+use Rattle.block.specs.Layout.{rule-in, rule-at, record-bytes, record-start, all-zero, head-right, body-right, damage-of, with-check, sealed, laid-out, WrittenReadsBack}
 use Rattle.block.proofs.OneRecord.{length-record, rule-in-record}
-use Rattle.block.proofs.Whole.{rules-from-each}
+use Rattle.block.proofs.Right.{rules-from-each}
 use Rattle.block.proofs.Rewritten.{record-pasted}
 use Rattle.block.proofs.Sealed.{length-sealed, rule-sealed, sealed-right}
 
@@ -93,13 +94,34 @@ pub rule-laid : (n : ℕ) (rules : List Rule) (i : ℕ) → i < length rules →
 rule-laid n rules i h =
     ap (λ b. rule-at b i) (laid-is-sealed n rules) ∙ rule-sealed (unsealed n (length rules) rules) i ∙ rule-unsealed n (length rules) rules i h
 
+-- each of its elements is a byte
+abbrev Bytes : List ℕ → Type 0
+Bytes bytes = All (λ byte. byte < 256) bytes
+
+bytes-record : (r : Rule) → Bytes (record-bytes r)
+unfolding record-bytes
+bytes-record r =
+    let known = facts (parts-of r) (rule-makes r) .known in
+    (omega arith, (omega arith, (omega arith, (omega arith, (omega (arith, r .short), (omega (arith, known), (omega arith, (omega arith, (omega arith, (omega arith, (omega arith, (omega arith, tt))))))))))))
+
+bytes-joined : (rules : List Rule) → Bytes (joined record-bytes rules)
+bytes-joined [] = tt
+bytes-joined (r ∷ rules) = all-append (λ byte. byte < 256) (record-bytes r) (joined record-bytes rules) (bytes-record r) (bytes-joined rules)
+
+bytes-zeros : (m : ℕ) → Bytes (replicate m 0)
+bytes-zeros zero = tt
+bytes-zeros (suc m) = (omega arith, bytes-zeros m)
+
+pub bytes-laid : (n : ℕ) (rules : List Rule) → n < 256 → length rules ≤ 32 → Bytes (laid-out n rules)
+unfolding laid-out with-check
+bytes-laid n rules small few =
+    let body = all-append (λ byte. byte < 256) (joined record-bytes rules) (replicate (496 - 12 * length rules) 0) (bytes-joined rules) (bytes-zeros (496 - 12 * length rules)) in
+    (omega arith, (omega arith, (small, (omega arith, all-append (λ byte. byte < 256) (replicate 12 0) _ (bytes-zeros 12) body))))
+
 pub written-reads-back : WrittenReadsBack
-written-reads-back n rules few = (length-laid n rules few, right-laid n rules, rule-laid n rules)
+written-reads-back n rules small few = record { size = length-laid n rules few; bytes = bytes-laid n rules small few; right = right-laid n rules; reads = rule-laid n rules }
 
 -- the block as it is written, record by record
-
-pub unsealed-none : (n k : ℕ) → set (set (replicate 512 0) 2 n) 3 k ≡ unsealed n k []
-unsealed-none n k = refl
 
 -- twelve bytes pasted behind p
 paste-at : (p q bytes : List ℕ) (at : ℕ) → length p ≡ at → length bytes ≡ 12 → paste (p ++ q) at bytes 12 ≡ p ++ bytes ++ drop 12 q
@@ -112,13 +134,17 @@ paste-at p q bytes at e twelve =
 abbrev front : ℕ → ℕ → List ℕ → List ℕ
 front n k records = 0 ∷ 0 ∷ n ∷ k ∷ replicate 12 0 ++ records
 
+fewer-zeros : (rules : List Rule) (r : Rule) → drop {A = ℕ} 12 (replicate (496 - 12 * length rules) 0) ≡ replicate (496 - 12 * length (rules ++ r ∷ [])) 0
+fewer-zeros rules r =
+    let fewer : 496 - 12 * length rules - 12 ≡ 496 - 12 * length (rules ++ r ∷ []) = omega (arith, length-push rules r) in
+    drop-replicate {X = ℕ} 12 (496 - 12 * length rules) 0 ∙ ap (λ m. replicate m 0) fewer
+
 pub unsealed-more : (n k : ℕ) (rules : List Rule) (r : Rule) → paste (unsealed n k rules) (record-start (length rules)) (record-bytes r) 12 ≡ unsealed n k (rules ++ r ∷ [])
 unsealed-more n k rules r =
     let all = length-joined rules in
-    let fewer : 496 - 12 * length rules - 12 ≡ 496 - 12 * length (rules ++ r ∷ []) = omega (arith, length-push rules r) in
     paste-at (front n k (joined record-bytes rules)) (replicate (496 - 12 * length rules) 0) (record-bytes r) (record-start (length rules)) (omega arith) (length-record r)
     ∙ ap (λ records. front n k (records ++ drop 12 (replicate (496 - 12 * length rules) 0))) (joined-more record-bytes [] rules r)
-    ∙ ap (λ zeros. front n k (joined record-bytes (rules ++ r ∷ []) ++ zeros)) (drop-replicate 12 (496 - 12 * length rules) 0 ∙ ap (λ m. replicate m 0) fewer)
+    ∙ ap (λ zeros. front n k (joined record-bytes (rules ++ r ∷ []) ++ zeros)) (fewer-zeros rules r)
 
 -- the same with i open rules, as a copy leaves it
 pub unsealed-copied : (n k i : ℕ) (b bytes : List ℕ) → b ≡ unsealed n k (replicate i open-rule) → bytes ≡ record-bytes open-rule → putMid (record-start i) (record-start i + 12 - record-start i) b bytes ≡ unsealed n k (replicate (i + 1) open-rule)

@@ -1,6 +1,6 @@
 pub mod Carries
 pub mod OneRecord
-pub mod Whole
+pub mod Right
 pub mod Sealed
 pub mod Rewritten
 pub mod LaidOut

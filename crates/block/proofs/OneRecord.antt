@@ -1,11 +1,9 @@
 -- A record is written so that it reads back as its rule. Assumes nothing.
 use mathlib.Core.Path.{_≡_, refl, sym, ap, _∙_}
-use mathlib.Core.Bool.{Bool, true, false, cond}
 use mathlib.Core.List.{List, [], _∷_, _++_}
-use Prim.Native.Nat.{ℕ, _+_, _-_, _*_, _/_, _%_, _^_, _≤_, _<_}
+use Prim.Native.Nat.{ℕ, _+_, _-_, _*_, _/_, _%_, _^_, _<_}
 use native.Mathlib.Omega.{arith}
-use lib.Dec.{eqb}
-use lib.ListN.{length, getD, drop, take}
+use lib.ListN.{length, getD}
 use Rattle.std.specs.declared.option.Option.{Option}
 use Rattle.std.specs.declared.option.Option.the-variants.{Some, None}
 use Rattle.std.specs.Options.{okOr}
@@ -29,10 +27,10 @@ rule-in-made bytes e = cond-true _ _ _ (eq-eqb _ _ e)
 low-word : (n : ℕ) → n / 256 % 256 * 256 + n % 256 ≡ n % 65536
 low-word n = omega arith
 
-pub word-back : (n : ℕ) → n < 65536 → n / 256 % 256 * 256 + n % 256 ≡ n
+pub word-back : (n : ℕ) → n < 65536 → word (word-bytes n) 0 ≡ n
 word-back n h = omega arith
 
-long-back : (n : ℕ) → n < 2 ^ 32 → long (long-bytes n) 0 ≡ n
+pub long-back : (n : ℕ) → n < 2 ^ 32 → long (long-bytes n) 0 ≡ n
 long-back n h = let high = word-back (n / 65536) (omega arith) in let low = low-word n in omega arith
 
 parts-back : (p : Parts) → p .address < 2 ^ 32 → p .first < 2 ^ 16 → p .last < 2 ^ 16 → parts-in (bytes-of p) ≡ p
@@ -71,7 +69,4 @@ rule-in-read bytes address first last e z a f l =
 pub bytes-written : (p : Parts) (address first last : List ℕ) → address ≡ (p .address / 16777216 % 256) ∷ (p .address / 65536 % 256) ∷ (p .address / 256 % 256) ∷ (p .address % 256) ∷ [] → first ≡ word-bytes (p .first) → last ≡ word-bytes (p .last) → getD address 0 0 ∷ getD address 1 0 ∷ getD address 2 0 ∷ getD address 3 0 ∷ p .prefix ∷ p .action ∷ getD first 0 0 ∷ getD first 1 0 ∷ getD last 0 0 ∷ getD last 1 0 ∷ 0 ∷ 0 ∷ [] ≡ bytes-of p
 bytes-written p address first last a f l =
     let top : p .address / 16777216 % 256 ≡ p .address / 65536 / 256 % 256 = omega arith in
-    ap (λ (bytes : List ℕ). getD bytes 0 0 ∷ getD bytes 1 0 ∷ getD bytes 2 0 ∷ getD bytes 3 0 ∷ p .prefix ∷ p .action ∷ getD first 0 0 ∷ getD first 1 0 ∷ getD last 0 0 ∷ getD last 1 0 ∷ 0 ∷ 0 ∷ []) a
-    ∙ ap (λ (bytes : List ℕ). (p .address / 16777216 % 256) ∷ (p .address / 65536 % 256) ∷ (p .address / 256 % 256) ∷ (p .address % 256) ∷ p .prefix ∷ p .action ∷ getD bytes 0 0 ∷ getD bytes 1 0 ∷ getD last 0 0 ∷ getD last 1 0 ∷ 0 ∷ 0 ∷ []) f
-    ∙ ap (λ (bytes : List ℕ). (p .address / 16777216 % 256) ∷ (p .address / 65536 % 256) ∷ (p .address / 256 % 256) ∷ (p .address % 256) ∷ p .prefix ∷ p .action ∷ word-bytes (p .first) ++ (getD bytes 0 0 ∷ getD bytes 1 0 ∷ 0 ∷ 0 ∷ [])) l
-    ∙ ap (λ (byte : ℕ). byte ∷ drop 1 (bytes-of p)) top
+    cc

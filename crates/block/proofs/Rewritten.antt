@@ -1,26 +1,25 @@
 -- A block with one record rewritten: that record holds the new rule, the others hold what they held, and it is as right as before. Assumes nothing.
-use mathlib.Core.Path.{_≡_, refl, sym, ap, _∙_}
-use mathlib.Core.Bool.{Bool, true, false, _&&_}
-use mathlib.Core.List.{List, [], _∷_, _++_}
+use mathlib.Core.Path.{_≡_, sym, ap, _∙_}
+use mathlib.Core.Bool.{true}
+use mathlib.Core.List.{List, _++_}
 use mathlib.Core.Logic.{_⊎_, inl, inr, ⊎-elim}
-use Prim.Native.Nat.{ℕ, zero, suc, _+_, _-_, _*_, _≤_, _<_}
+use Prim.Native.Nat.{ℕ, _+_, _-_, _≤_, _<_}
 use native.Mathlib.Omega.{arith}
 use borrow.Author.Needs.{needs}
 use borrow.Rule.Slice.PartMut.{putMid}
-use lib.Dec.{eqb}
-use lib.ListN.{length, getD, set, drop, take, length-drop, length-take, length-append}
+use lib.ListN.{length, getD, drop, take, length-drop, length-take}
 use Rattle.std.specs.Options.{isSome}
 use Rattle.std.specs.declared.option.Option.the-variants.{Some, None}
-use Rattle.std.specs.shelf.Lists.{between, paste}
+use Rattle.std.specs.shelf.Lists.{paste}
 use Rattle.std.proofs.shelf.Edits.{length-paste}
 use Rattle.std.proofs.shelf.Lists.{places, append-assoc, same-lists, take-all, take-at, drop-at, length-take-le, getD-drop, getD-take}
 use Rattle.std.proofs.shelf.Parts.{putMid-paste}
 use Rattle.std.proofs.shelf.Tests.{cases-eq, cases-lt, and-parts, and-from}
 use Rattle.rule.specs.declared.Rule.{Rule}
-use Rattle.block.specs.Layout.{rule-in, rule-at, record-bytes, record-start, all-zero, rules-below, check-right, head-right, body-right, damage-of, sealed, rewritten}
+use Rattle.block.specs.Layout.{rule-in, rule-at, record-bytes, record-start, all-zero, rules-below, head-right, body-right, damage-of, rewritten}
 use Rattle.block.proofs.OneRecord.{length-record, rule-in-record}
-use Rattle.block.proofs.Whole.{right-from-none, rules-each, rules-from-each}
-use Rattle.block.proofs.Sealed.{length-sealed, rule-sealed, sealed-right}
+use Rattle.block.proofs.Right.{right-from-none, rules-each, rules-from-each}
+use Rattle.block.proofs.Sealed.{length-sealed, getD-sealed, rule-sealed, sealed-right}
 
 -- bytes pasted into a list, and the others as they were
 getD-below : (b bytes : List ℕ) (at k d : ℕ) → at + 12 ≤ length b → length bytes ≡ 12 → k < at → getD (paste b at bytes 12) k d ≡ getD b k d
@@ -41,9 +40,9 @@ part-same : (a b : List ℕ) (from n : ℕ) → length a ≡ length b → ((k d 
 part-same a b from n e each =
     same-lists _ _ (simp (length-take, length-drop) (omega arith))
     (λ k d h.
-      let less : k < n = omega (arith, length-take n (drop from a)) in
-      getD-take n (drop from a) k d less ∙ getD-drop from a k d ∙ each (from + k) d (omega arith) (omega arith)
-      ∙ sym (getD-drop from b k d) ∙ sym (getD-take n (drop from b) k d less))
+    let less : k < n = omega (arith, length-take n (drop from a)) in
+    getD-take n (drop from a) k d less ∙ getD-drop from a k d ∙ each (from + k) d (omega arith) (omega arith)
+    ∙ sym (getD-drop from b k d) ∙ sym (getD-take n (drop from b) k d less))
 
 rest-same : (a b : List ℕ) (from : ℕ) → length a ≡ length b → ((k d : ℕ) → from ≤ k → getD a k d ≡ getD b k d) → drop from a ≡ drop from b
 rest-same a b from e each =
@@ -88,9 +87,7 @@ head-pasted b n k i r e h =
     let two : getD (pasted b i r) 2 0 ≡ getD b 2 0 = getD-pasted b i r 2 0 e h (inl (omega arith)) in
     let three : getD (pasted b i r) 3 0 ≡ getD b 3 0 = getD-pasted b i r 3 0 e h (inl (omega arith)) in
     let zeros : take 12 (drop 4 (pasted b i r)) ≡ take 12 (drop 4 b) = part-same (pasted b i r) b 4 12 (length-pasted b i r e h) (λ j d low high. getD-pasted b i r j d e h (inl (omega arith))) in
-    ap (λ byte. eqb byte n && (eqb (getD (pasted b i r) 3 0) k && all-zero (take 12 (drop 4 (pasted b i r))))) two
-    ∙ ap (λ byte. eqb (getD b 2 0) n && (eqb byte k && all-zero (take 12 (drop 4 (pasted b i r))))) three
-    ∙ ap (λ bytes. eqb (getD b 2 0) n && (eqb (getD b 3 0) k && all-zero bytes)) zeros
+    cc
 
 body-pasted : (b : List ℕ) (k i : ℕ) (r : Rule) → length b ≡ 512 → i < k → k ≤ 32 → body-right b k ≡ true → body-right (pasted b i r) k ≡ true
 unfolding body-right
@@ -100,7 +97,7 @@ body-pasted b k i r e h few right =
     (rules-from-each (pasted b i r) k (λ j l. ⊎-elim (λ same. ap (λ m. isSome (rule-at (pasted b i r) m)) same ∙ ap isSome (rule-pasted b i r e (omega arith))) (λ ne. ap isSome (other-pasted b i j r e (omega arith) ne) ∙ rules-each b k (both .0) j l) (cases-eq j i)))
     (ap all-zero (rest-same (pasted b i r) b (record-start k) (length-pasted b i r e (omega arith)) (λ j d low. getD-pasted b i r j d e (omega arith) (inr (omega arith)))) ∙ both .1)
 
--- what the store rests on
+-- the block with its check written too
 
 pub length-rewritten : (b : List ℕ) (i : ℕ) (r : Rule) → length b ≡ 512 → i < 32 → length (rewritten b i r) ≡ 512
 unfolding rewritten
@@ -113,6 +110,10 @@ rule-rewritten b i r e h = rule-sealed (pasted b i r) i ∙ rule-pasted b i r e 
 pub other-rewritten : (b : List ℕ) (i j : ℕ) (r : Rule) → length b ≡ 512 → i < 32 → (j ≡ i → ⊥) → rule-at (rewritten b i r) j ≡ rule-at b j
 unfolding rewritten
 other-rewritten b i j r e h ne = rule-sealed (pasted b i r) j ∙ other-pasted b i j r e h ne
+
+pub byte-rewritten : (b : List ℕ) (i : ℕ) (r : Rule) (m : ℕ) → length b ≡ 512 → i < 32 → 2 ≤ m → (m < record-start i) ⊎ (record-start i + 12 ≤ m) → getD (rewritten b i r) m 0 ≡ getD b m 0
+unfolding rewritten
+byte-rewritten b i r m e h behind away = getD-sealed (pasted b i r) m behind ∙ getD-pasted b i r m 0 e h away
 
 pub right-rewritten : (b : List ℕ) (n k i : ℕ) (r : Rule) → length b ≡ 512 → i < k → k ≤ 32 → damage-of b n k ≡ None → damage-of (rewritten b i r) n k ≡ None
 unfolding rewritten

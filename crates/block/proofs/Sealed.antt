@@ -1,20 +1,18 @@
 -- Writing the check of a block makes it right, and changes nothing else. Assumes nothing.
 use mathlib.Core.Path.{_≡_, refl, sym, ap, _∙_}
-use mathlib.Core.Bool.{Bool, true, false, _&&_}
-use mathlib.Core.List.{List, [], _∷_, _++_}
-use Prim.Native.Nat.{ℕ, zero, suc, _+_, _-_, _*_, _≤_, _<_}
+use mathlib.Core.Bool.{true, _&&_}
+use mathlib.Core.List.{List, [], _∷_}
+use Prim.Native.Nat.{ℕ, zero, suc, _+_, _-_, _≤_, _<_}
 use native.Mathlib.Omega.{arith}
-use lib.Dec.{eqb}
 use lib.ListN.{length, getD, set, drop, take, length-drop}
 use Rattle.std.specs.Options.{isSome}
 use Rattle.std.specs.declared.option.Option.the-variants.{None}
-use Rattle.std.specs.shelf.Lists.{between}
 use Rattle.std.proofs.shelf.Lists.{take-all, drop-drop, getD-drop}
 use Rattle.std.proofs.shelf.Tests.{eq-eqb}
 use Rattle.block.specs.Check.{check}
-use Rattle.block.specs.Layout.{word-bytes, rule-in, rule-at, record-start, all-zero, rules-below, check-right, head-right, body-right, damage-of, with-check, sealed}
+use Rattle.block.specs.Layout.{word-bytes, rule-in, rule-at, record-start, rules-below, check-right, head-right, body-right, damage-of, with-check, sealed}
 use Rattle.block.proofs.OneRecord.{word-back}
-use Rattle.block.proofs.Whole.{none-from-right}
+use Rattle.block.proofs.Right.{none-from-right}
 
 -- the bytes behind the check
 pub behind-check : (b : List ℕ) → length b ≡ 512 → take 510 (drop 2 b) ≡ drop 2 b

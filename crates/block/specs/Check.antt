@@ -7,7 +7,6 @@ use Rattle.std.specs.shelf.Lists.{folded}
 
 -- one's complement addition: a carry out of 16 bits is added back
 infixl 65 _⊕_
-
 abbrev pub _⊕_ : ℕ → ℕ → ℕ
 a ⊕ b = cond (ltb (a + b) 65536) (a + b) (a + b - 65535)
 

@@ -8,7 +8,7 @@ use lib.Dec.{eqb}
 use Rattle.std.specs.Options.{isSome}
 use Rattle.std.specs.declared.option.Option.{Option}
 use Rattle.std.specs.declared.option.Option.the-variants.{Some, None}
-use Rattle.std.specs.shelf.Lists.{length, getD, drop, replicate, between, paste, joined}
+use Rattle.std.specs.shelf.Lists.{length, getD, drop, replicate, between, paste, joined, All}
 use Rattle.refusal.specs.declared.Fault.{Fault}
 use Rattle.refusal.specs.declared.Fault.the-variants.{Check, Head, Record}
 use Rattle.rule.specs.declared.Parts.{Parts}
@@ -16,20 +16,21 @@ use Rattle.rule.specs.declared.Rule.{Rule}
 use Rattle.rule.specs.Making.{make, parts-of, open-rule}
 use Rattle.block.specs.Check.{check}
 
--- numbers of 16 and 32 bits, high byte first
+-- the numbers of 16 and of 32 bits at a place, high byte first
 abbrev pub word : List ℕ → ℕ → ℕ
 word bytes i = getD bytes i 0 * 256 + getD bytes (i + 1) 0
 
 abbrev pub long : List ℕ → ℕ → ℕ
 long bytes i = word bytes i * 65536 + word bytes (i + 2)
 
+-- and the bytes of such numbers
 abbrev pub word-bytes : ℕ → List ℕ
 word-bytes n = (n / 256 % 256) ∷ (n % 256) ∷ []
 
 abbrev pub long-bytes : ℕ → List ℕ
 long-bytes n = word-bytes (n / 65536) ++ word-bytes n
 
--- the twelve bytes of a record
+-- the parts in the twelve bytes of a record
 abbrev pub parts-in : List ℕ → Parts
 parts-in bytes = record { address = long bytes 0; prefix = getD bytes 4 0; action = getD bytes 5 0; first = word bytes 6; last = word bytes 8 }
 
@@ -37,9 +38,11 @@ parts-in bytes = record { address = long bytes 0; prefix = getD bytes 4 0; actio
 unfoldable pub rule-in : List ℕ → Option Rule
 rule-in bytes = cond (eqb (word bytes 10) 0) (make (parts-in bytes)) None
 
+-- the bytes of a record with these parts: address, prefix, action, the ports and two zeros
 abbrev pub bytes-of : Parts → List ℕ
 bytes-of p = long-bytes (p .address) ++ (p .prefix ∷ p .action ∷ word-bytes (p .first) ++ (word-bytes (p .last) ++ (0 ∷ 0 ∷ [])))
 
+-- the record of a rule
 unfoldable pub record-bytes : Rule → List ℕ
 record-bytes r = bytes-of (parts-of r)
 
@@ -47,10 +50,11 @@ record-bytes r = bytes-of (parts-of r)
 abbrev pub record-start : ℕ → ℕ
 record-start i = 16 + 12 * i
 
--- the rule in record i, if it holds one
+-- the rule in record i of a block, if it holds one
 unfoldable pub rule-at : List ℕ → ℕ → Option Rule
 rule-at b i = rule-in (between (record-start i) (record-start i + 12) b)
 
+-- each byte is zero
 unfoldable pub all-zero : List ℕ → Bool
 all-zero [] = true
 all-zero (x ∷ xs) = eqb x 0 && all-zero xs
@@ -96,10 +100,13 @@ unfoldable pub laid-out : ℕ → List Rule → List ℕ
 laid-out n rules =
     with-check (n ∷ length rules ∷ replicate 12 0 ++ (joined record-bytes rules ++ replicate (496 - 12 * length rules) 0))
 
--- a block that is written is a block that reads back
+-- what is written reads back: a block of 512 bytes, with nothing wrong, and with each rule in its place
+pub record ReadsBack (n : ℕ) (rules : List Rule) : Type 0 where
+  pub size : length (laid-out n rules) ≡ 512
+  pub bytes : All (λ byte. byte < 256) (laid-out n rules)
+  pub right : damage-of (laid-out n rules) n (length rules) ≡ None
+  pub reads : (i : ℕ) → i < length rules → rule-at (laid-out n rules) i ≡ Some (getD rules i open-rule)
+
+-- for every number that fits a byte and at most 32 rules
 abbrev pub WrittenReadsBack : Type 0
-WrittenReadsBack =
-    (n : ℕ) (rules : List Rule) → length rules ≤ 32
-    → (length (laid-out n rules) ≡ 512)
-    × (damage-of (laid-out n rules) n (length rules) ≡ None)
-    × ((i : ℕ) → i < length rules → rule-at (laid-out n rules) i ≡ Some (getD rules i open-rule))
+WrittenReadsBack = (n : ℕ) (rules : List Rule) → n < 256 → length rules ≤ 32 → ReadsBack n rules

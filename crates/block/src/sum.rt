@@ -11,16 +11,19 @@ fn carried(sum: u32) -> u32
     (sum & 0xffff) + (sum >> 16)
 }
 
-// The words are added up plainly, which is quick, and the carries are added back once at the end.
+// The check of an even number of bytes.
+//
+// The words are added up plainly and low byte first, as the processor reads them, which is quick. A sum in one's complement
+// comes out the same that way, but for the order of its two bytes.
 pub(crate) fn checksum(bytes: &[u8]) -> u16
     requires { ⌜ length (now bytes) ≤ 512 ⌝ ∗ ⌜ length (now bytes) % 2 ≡ 0 ⌝ }
     ensures { λ r. ⌜ r ≡ check (now (bytes .entry)) ⌝ }
 {
     let mut sum: u32 = 0;
     for i in 0..bytes.len() / 2 {
-        sum += u32::from(bytes[2 * i]) * 256 + u32::from(bytes[2 * i + 1]);
+        sum += u32::from(u16::from_le_bytes([bytes[2 * i], bytes[2 * i + 1]]));
     }
     // adding the first carries back can carry once more
-    let sum = carried(carried(sum));
-    !(sum as u16)
+    let sum = carried(carried(sum)) as u16;
+    !sum.swap_bytes()
 }

@@ -6,6 +6,7 @@ ghost use mathlib.Core.Path.{_≡_};
 ghost use lib.ListN.{length};
 ghost use Rattle.std.specs.Of.Vec.{vec-items};
 ghost use Rattle.std.specs.Results.{Cases};
+ghost use Rattle.std.specs.Vec.{made};
 ghost use Rattle.std.specs.declared.result.Result.the-variants.{Ok, Err};
 ghost use Rattle.block.specs.Memory.{block-entries};
 ghost use Rattle.image.specs.Image.{image-count, image-check};
@@ -33,7 +34,8 @@ pub fn count(bytes: &[u8]) -> Result<u32, Refusal>
 // The store in an image.
 pub fn open(bytes: Vec<u8>) -> Result<BlockStore, Refusal>
     ensures value { λ r. ⌜ Cases r (λ s. image-check (vec-items bytes) ≡ Ok (s .count)) (λ e. image-check (vec-items bytes) ≡ Err e) ⌝ }
-    ensures memory { λ r. ⌜ Cases r (λ s. s .bytes ≡ bytes) (λ _. Unit {0}) ⌝ }
+    ensures memory { λ r. ⌜ made r (λ s. s .bytes ≡ bytes) ⌝ }
+    ensures all_slots { λ r. ⌜ made r (λ s. length (block-entries (vec-items bytes) (s .count)) ≡ s .count) ⌝ }
 {
     let slots = count(bytes.as_slice())?;
     let store = BlockStore::new(bytes, slots);

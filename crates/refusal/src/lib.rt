@@ -4,6 +4,8 @@
 // A refusal is written as these three numbers, and `meaning` tells its cause in words.
 mod texts;
 
+pub use texts::RefusalDisplay;
+
 ghost use mathlib.Core.Path.{_≡_};
 ghost use Rattle.refusal.specs.Table.{fault-number, layer-number, told};
 

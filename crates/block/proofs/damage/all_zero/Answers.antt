@@ -1,6 +1,5 @@
-use mathlib.Core.Path.{refl}
 use native.Mathlib.Omega.{arith}
-use Rattle.block.proofs.Whole.{zeros-more, zeros-all}
+use Rattle.block.proofs.Right.{zeros-more, zeros-all}
 use Rattle.block.proofs.damage.all_zero.Needs as need
 
 pub loop-byte-again : need.loop-byte-again

@@ -1,7 +1,7 @@
 use mathlib.Core.Path.{sym, ap, _∙_}
 use native.Mathlib.Omega.{arith}
 use Rattle.block.specs.Layout.{rules-below}
-use Rattle.block.proofs.Whole.{rules-none, rules-more, rules-not}
+use Rattle.block.proofs.Right.{rules-none, rules-more, rules-not}
 use Rattle.block.proofs.damage.rules_below.Needs as need
 
 pub loop-i-holds : need.loop-i-holds

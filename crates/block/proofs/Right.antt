@@ -1,21 +1,20 @@
 -- What is right with a block, and that one that is right holds rules. Assumes nothing.
 use mathlib.Core.Path.{_≡_, refl, sym, ap, _∙_}
 use mathlib.Core.Bool.{Bool, true, false, cond, not, _&&_}
-use mathlib.Core.List.{List, [], _∷_, _++_}
-use mathlib.Core.Logic.{⊎-elim, inl, inr}
-use Prim.Native.Nat.{ℕ, zero, suc, _+_, _-_, _*_, _/_, _%_, _^_, _≤_, _<_}
+use mathlib.Core.List.{List}
+use mathlib.Core.Logic.{⊎-elim}
+use Prim.Native.Nat.{ℕ, zero, suc, _+_, _-_, _≤_, _<_}
 use native.Mathlib.Numerals.{add-one}
 use native.Mathlib.Omega.{arith}
-use lib.Bits.{bitOr, bitAnd, or-zero-l, or-add-and}
+use lib.Bits.{bitOr, or-zero-l, or-add-and}
 use lib.Dec.{eqb}
-use lib.ListN.{length, getD, drop, take, replicate}
+use lib.ListN.{length, getD, drop}
 use Rattle.std.specs.Options.{isSome}
 use Rattle.std.specs.declared.option.Option.{Option}
 use Rattle.std.specs.declared.option.Option.the-variants.{Some, None}
 use Rattle.std.proofs.shelf.Bits.{and-le-r}
 use Rattle.std.proofs.shelf.Lists.{drop-more, drop-all}
-use Rattle.std.proofs.shelf.Tests.{cases-eq, cases-bool, and-from, and-parts, and-left, and-right, eq-eqb, ne-eqb, cond-false, not-from-true}
-use Rattle.refusal.specs.declared.Fault.{Fault}
+use Rattle.std.proofs.shelf.Tests.{cases-eq, and-from, and-parts, and-left, and-right, eq-eqb, ne-eqb, cond-false, not-from-true}
 use Rattle.refusal.specs.declared.Fault.the-variants.{Check, Head, Record}
 use Rattle.rule.specs.declared.Rule.{Rule}
 use Rattle.block.specs.Layout.{rule-at, all-zero, rules-below, check-right, head-right, body-right, damage-of, record-start}

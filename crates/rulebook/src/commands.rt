@@ -1,0 +1,83 @@
+// What can be asked for on the command line.
+use crate::failure::Failure;
+use crate::files::load;
+use crate::files::save;
+use block::memory;
+use block::store::BlockReading;
+use block::store::BlockStoring;
+use block::store::memory_size;
+use rule::Rule;
+use rule::RuleDisplay;
+use store::Reading;
+use store::Storing;
+
+#[derive(Drop)]
+pub enum Command<'a> {
+    Task,
+    Help,
+    Format { file: &'a str, slots: u32 },
+    Set { file: &'a str, slot: u32, rule: [&'a str; 3] },
+    Show { file: &'a str },
+    Check { file: &'a str },
+}
+
+// A number as the formats have it: decimal, within 32 bits, no leading zero.
+fn number(word: &str, expected: &'static str) -> Result<u32, Failure> {
+    match text::number(word.as_bytes(), 4294967295) {
+        Some(n) => Ok(n as u32),
+        None => Err(Failure::Usage(expected)),
+    }
+}
+
+pub fn read(words: &[String]) -> Result<Command<'_>, Failure> {
+    let [first, rest @ ..] = words else {
+        return Ok(Command::Task);
+    };
+    match (first.as_str(), rest) {
+        ("help", []) => Ok(Command::Help),
+        ("format", [file, slots]) => Ok(Command::Format { file: file.as_str(), slots: number(slots.as_str(), "SLOTS is a decimal number")? }),
+        ("set", [file, slot, network, action, ports]) => Ok(Command::Set {
+            file: file.as_str(),
+            slot: number(slot.as_str(), "SLOT is a decimal number")?,
+            rule: [network.as_str(), action.as_str(), ports.as_str()],
+        }),
+        ("show", [file]) => Ok(Command::Show { file: file.as_str() }),
+        ("check", [file]) => Ok(Command::Check { file: file.as_str() }),
+        _ => Err(Failure::Usage("no such command, or not its words")),
+    }
+}
+
+pub fn format(rt: &LibcRuntime, file: &str, slots: u32) -> Result<(), Failure> {
+    let mut bytes = vec![in rt.alloc(); 0u8; memory_size(slots)?]?;
+    memory::format(bytes.as_mut_slice(), slots)?;
+    save(rt, file, bytes.as_slice())?;
+    println!(rt, "{file}: {slots} open rules")?;
+    Ok(())
+}
+
+pub fn set(rt: &LibcRuntime, file: &str, slot: u32, words: [&str; 3]) -> Result<(), Failure> {
+    let [network, action, ports] = words;
+    let text = format!(rt.alloc(), "{network} {action} {ports}")?;
+    let rule = Rule::read(text.as_bytes())?;
+    let mut store = load(rt, file)?;
+    store.put(slot, rule)?;
+    save(rt, file, store.bytes())?;
+    println!(rt, "{file}: slot {slot} is {rule}")?;
+    Ok(())
+}
+
+pub fn show(rt: &LibcRuntime, file: &str) -> Result<(), Failure> {
+    let mut store = load(rt, file)?;
+    for slot in 0..store.count() {
+        let rule = store.get(slot)?;
+        println!(rt, "{slot} {rule}")?;
+    }
+    Ok(())
+}
+
+pub fn check(rt: &LibcRuntime, file: &str) -> Result<(), Failure> {
+    let store = load(rt, file)?;
+    let slots = store.count();
+    println!(rt, "{file}: {slots} slots, no damage")?;
+    Ok(())
+}

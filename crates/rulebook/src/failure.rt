@@ -1,0 +1,65 @@
+// Why the program stops with status 1: one line for each reason.
+use refusal::Refusal;
+use refusal::RefusalDisplay;
+use std::alloc::AllocError;
+use std::alloc::Global;
+use std::alloc::Refused;
+use std::fmt;
+use std::io;
+
+#[derive(Drop)]
+pub enum Failure {
+    // wrong words on the command line: what was expected
+    Usage(&'static str),
+    Refused(Refusal),
+    // a file that cannot be read or written: what was tried, on which file, and why it failed
+    File { tried: &'static str, file: String, error: io::Error },
+    // standard input or output, the arguments, or want of memory
+    System(io::Error),
+}
+
+pub impl fmt::Display for Failure as FailureDisplay {
+    fn fmt<W: fmt::Write>(&self, f: &mut fmt::Formatter<W>) -> fmt::Result {
+        match self {
+            Failure::Usage(expected) => write!(f, "{expected}; see rulebook help"),
+            Failure::Refused(refusal) => {
+                let meaning = refusal.meaning();
+                write!(f, "refused {refusal}: {meaning}")
+            }
+            Failure::File { tried, file, error } => write!(f, "cannot {tried} {file}: {error}"),
+            Failure::System(error) => write!(f, "{error}"),
+        }
+    }
+}
+
+pub impl From<Refusal> for Failure as FailureFromRefusal {
+    fn from(refusal: Refusal) -> Failure {
+        Failure::Refused(refusal)
+    }
+}
+
+pub impl From<io::Error> for Failure as FailureFromIo {
+    fn from(error: io::Error) -> Failure {
+        Failure::System(error)
+    }
+}
+
+pub impl From<AllocError> for Failure as FailureFromAlloc {
+    fn from(error: AllocError) -> Failure {
+        Failure::System(io::Error::from(error))
+    }
+}
+
+pub impl<T: Drop> From<Refused<T>> for Failure as FailureFromRefused {
+    fn from(_error: Refused<T>) -> Failure {
+        Failure::System(io::Error::from(AllocError))
+    }
+}
+
+// The failure to read or write a file.
+pub fn file_failure(heap: Global, tried: &'static str, file: &str, error: io::Error) -> Failure {
+    match String::from_str(heap, file) {
+        Ok(file) => Failure::File { tried, file, error },
+        Err(_) => Failure::System(error),
+    }
+}

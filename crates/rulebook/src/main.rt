@@ -1,0 +1,44 @@
+// The program `rulebook`: keeps a store of block rules in an image file.
+//
+// It is thin: what it reads, writes and refuses comes from the proved libraries below it.
+mod commands;
+mod failure;
+mod files;
+mod task;
+
+use commands::Command;
+use failure::Failure;
+use std::env;
+
+const HELP: &str = "\
+rulebook                             format, write, read and damage a store in memory, and say what happens
+rulebook format FILE SLOTS           a new image of SLOTS open rules (1 to 64)
+rulebook set FILE SLOT RULE          put a rule into a slot
+rulebook show FILE                   the rule of every slot
+rulebook check FILE                  whether the image is whole
+rulebook help                        this text
+A RULE is three words, ADDRESS/PREFIX ACTION FIRST-LAST, as in 192.0.2.0/24 block 0-65535.
+";
+
+fn run(rt: &LibcRuntime) -> Result<(), Failure> {
+    let words: Vec<String> = env::args(rt)?.skip(1).collect(rt.alloc())?;
+    match commands::read(words.as_slice())? {
+        Command::Task => task::run(rt),
+        Command::Help => {
+            rt.print(HELP)?;
+            Ok(())
+        }
+        Command::Format { file, slots } => commands::format(rt, file, slots),
+        Command::Set { file, slot, rule } => commands::set(rt, file, slot, rule),
+        Command::Show { file } => commands::show(rt, file),
+        Command::Check { file } => commands::check(rt, file),
+    }
+}
+
+fn main(rt: LibcRuntime) -> Result<(), Failure> {
+    let result = run(&rt);
+    if let Err(failure) = &result {
+        eprintln!(rt, "rulebook: {failure}")?;
+    }
+    result
+}
