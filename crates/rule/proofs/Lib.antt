@@ -1,1 +1,5 @@
 pub mod Rules
+pub mod Addresses
+pub mod FieldTexts
+pub mod Fields
+pub mod RoundTrip

@@ -1,1 +1,4 @@
 pub mod Making
+pub mod Text
+pub mod Reading
+pub mod Borrowed

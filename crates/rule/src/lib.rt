@@ -3,7 +3,16 @@
 // What is no rule cannot be had as a `Rule`: the conditions are invariants of the type.
 // Each rule has one text, and that text, and no other, reads as the rule.
 mod making;
+mod reading;
+#[cfg(test)]
+mod tests;
+mod texts;
 
+pub use reading::read_action;
+pub use reading::read_network;
+pub use reading::read_ports;
+pub use texts::ActionDisplay;
+pub use texts::RuleDisplay;
 ghost use mathlib.Core.Path.{_≡_};
 ghost use Prim.Native.Nat.{_-_, _%_, _^_, _≤_, _<_};
 

@@ -1,0 +1,4 @@
+pub mod Cuts
+pub mod Decimal
+pub mod Options
+pub mod Grammar
