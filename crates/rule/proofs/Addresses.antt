@@ -10,7 +10,7 @@ use Rattle.std.specs.declared.option.Option.the-variants.{Some}
 use Rattle.std.proofs.shelf.Elements.{all-append}
 use Rattle.text.specs.Cutting.{split}
 use Rattle.text.specs.Octets.{octet-of}
-use Rattle.text.proofs.Cuts.{Lacks, Cut, split-at, split-cuts}
+use Rattle.text.proofs.Cuts.{Lacks, split-at, split-cuts}
 use Rattle.text.proofs.Decimal.{number-decimal, decimal-number, lacks-decimal}
 use Rattle.text.proofs.Grammar.{octet-number}
 use Rattle.text.proofs.Options.{then-parts, mapped-parts}

@@ -11,7 +11,7 @@ use Rattle.std.proofs.shelf.Elements.{all-append}
 use Rattle.std.proofs.shelf.Equals.{sameBytes-decides}
 use Rattle.text.specs.Cutting.{split}
 use Rattle.text.specs.Numbers.{number-of}
-use Rattle.text.proofs.Cuts.{Lacks, Cut, split-at, split-cuts}
+use Rattle.text.proofs.Cuts.{Lacks, split-at, split-cuts}
 use Rattle.text.proofs.Decimal.{number-decimal, decimal-number, lacks-decimal}
 use Rattle.text.proofs.Options.{then-parts, mapped-parts}
 use Rattle.rule.specs.declared.Action.{Action}

@@ -1,5 +1,5 @@
 -- How a text is cut into fields, and put together again. Assumes nothing.
-use mathlib.Core.Path.{_≡_, refl, sym, ap, subst, _∙_}
+use mathlib.Core.Path.{_≡_, refl, sym, ap, _∙_}
 use mathlib.Core.Bool.{Bool, true, false, cond}
 use mathlib.Core.List.{List, [], _∷_, _++_}
 use Prim.Native.Nat.{ℕ, _+_}
@@ -9,7 +9,7 @@ use lib.ListN.{length, length-append}
 use Rattle.std.specs.declared.option.Option.the-variants.{Some, None}
 use Rattle.std.proofs.shelf.Tests.{ne-eqb, eqb-true}
 use Rattle.text.specs.Cutting.{split}
-use Rattle.text.proofs.Cuts.{Lacks, Cut, split-cuts, split-lacks}
+use Rattle.text.proofs.Cuts.{Lacks, split-cuts, split-lacks}
 use Rattle.rule.specs.Reading.{fields, onto-first}
 
 -- a text without a space is one field

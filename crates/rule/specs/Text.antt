@@ -1,5 +1,5 @@
 -- The text of a rule: `address/prefix action first-last`. Assumes nothing.
-use mathlib.Core.List.{List, [], _∷_, _++_}
+use mathlib.Core.List.{List, _∷_, _++_}
 use Prim.Native.Nat.{ℕ, _/_, _%_, _^_}
 use lib.Chars.{codes}
 use Rattle.std.specs.Written.{decimal}

@@ -1,5 +1,6 @@
 // What can be asked for on the command line.
 use crate::failure::Failure;
+use crate::failure::Usage;
 use crate::files::load;
 use crate::files::save;
 use block::memory;
@@ -10,22 +11,25 @@ use rule::Rule;
 use rule::RuleDisplay;
 use store::Reading;
 use store::Storing;
+use crate::failure::FailureFromAlloc;
+use crate::failure::FailureFromIo;
+use crate::failure::FailureFromRefusal;
 
 #[derive(Drop)]
 pub enum Command<'a> {
     Task,
     Help,
     Format { file: &'a str, slots: u32 },
-    Set { file: &'a str, slot: u32, rule: [&'a str; 3] },
+    Set { file: &'a str, slot: u32, network: &'a str, action: &'a str, ports: &'a str },
     Show { file: &'a str },
     Check { file: &'a str },
 }
 
 // A number as the formats have it: decimal, within 32 bits, no leading zero.
-fn number(word: &str, expected: &'static str) -> Result<u32, Failure> {
+fn number(word: &str, usage: Usage) -> Result<u32, Failure> {
     match text::number(word.as_bytes(), 4294967295) {
         Some(n) => Ok(n as u32),
-        None => Err(Failure::Usage(expected)),
+        None => Err(Failure::Usage(usage)),
     }
 }
 
@@ -35,16 +39,24 @@ pub fn read(words: &[String]) -> Result<Command<'_>, Failure> {
     };
     match (first.as_str(), rest) {
         ("help", []) => Ok(Command::Help),
-        ("format", [file, slots]) => Ok(Command::Format { file: file.as_str(), slots: number(slots.as_str(), "SLOTS is a decimal number")? }),
+        ("format", [file, slots]) => Ok(Command::Format { file: file.as_str(), slots: number(slots.as_str(), Usage::Slots)? }),
         ("set", [file, slot, network, action, ports]) => Ok(Command::Set {
             file: file.as_str(),
-            slot: number(slot.as_str(), "SLOT is a decimal number")?,
-            rule: [network.as_str(), action.as_str(), ports.as_str()],
+            slot: number(slot.as_str(), Usage::Slot)?,
+            network: network.as_str(),
+            action: action.as_str(),
+            ports: ports.as_str(),
         }),
         ("show", [file]) => Ok(Command::Show { file: file.as_str() }),
         ("check", [file]) => Ok(Command::Check { file: file.as_str() }),
-        _ => Err(Failure::Usage("no such command, or not its words")),
+        _ => Err(Failure::Usage(Usage::Command)),
     }
+}
+
+// The rule that three words write.
+pub fn rule(rt: &LibcRuntime, network: &str, action: &str, ports: &str) -> Result<Rule, Failure> {
+    let text = format!(rt.alloc(), "{network} {action} {ports}")?;
+    Ok(Rule::read(text.as_bytes())?)
 }
 
 pub fn format(rt: &LibcRuntime, file: &str, slots: u32) -> Result<(), Failure> {
@@ -55,10 +67,7 @@ pub fn format(rt: &LibcRuntime, file: &str, slots: u32) -> Result<(), Failure> {
     Ok(())
 }
 
-pub fn set(rt: &LibcRuntime, file: &str, slot: u32, words: [&str; 3]) -> Result<(), Failure> {
-    let [network, action, ports] = words;
-    let text = format!(rt.alloc(), "{network} {action} {ports}")?;
-    let rule = Rule::read(text.as_bytes())?;
+pub fn set(rt: &LibcRuntime, file: &str, slot: u32, rule: Rule) -> Result<(), Failure> {
     let mut store = load(rt, file)?;
     store.put(slot, rule)?;
     save(rt, file, store.bytes())?;

@@ -7,13 +7,46 @@ use std::alloc::Refused;
 use std::fmt;
 use std::io;
 
+// What is wrong with the words on the command line.
+#[derive(Clone, Copy)]
+pub enum Usage {
+    Command,
+    Slots,
+    Slot,
+}
+
+pub impl fmt::Display for Usage as UsageDisplay {
+    fn fmt<W: fmt::Write>(&self, f: &mut fmt::Formatter<W>) -> fmt::Result {
+        match *self {
+            Usage::Command => write!(f, "no such command, or not its words"),
+            Usage::Slots => write!(f, "SLOTS is a decimal number"),
+            Usage::Slot => write!(f, "SLOT is a decimal number"),
+        }
+    }
+}
+
+// What was tried on a file.
+#[derive(Clone, Copy)]
+pub enum Tried {
+    Read,
+    Write,
+}
+
+pub impl fmt::Display for Tried as TriedDisplay {
+    fn fmt<W: fmt::Write>(&self, f: &mut fmt::Formatter<W>) -> fmt::Result {
+        match *self {
+            Tried::Read => write!(f, "read"),
+            Tried::Write => write!(f, "write"),
+        }
+    }
+}
+
 #[derive(Drop)]
 pub enum Failure {
-    // wrong words on the command line: what was expected
-    Usage(&'static str),
+    Usage(Usage),
     Refused(Refusal),
-    // a file that cannot be read or written: what was tried, on which file, and why it failed
-    File { tried: &'static str, file: String, error: io::Error },
+    // a file that cannot be read or written
+    File { tried: Tried, file: String, error: io::Error },
     // standard input or output, the arguments, or want of memory
     System(io::Error),
 }
@@ -21,7 +54,7 @@ pub enum Failure {
 pub impl fmt::Display for Failure as FailureDisplay {
     fn fmt<W: fmt::Write>(&self, f: &mut fmt::Formatter<W>) -> fmt::Result {
         match self {
-            Failure::Usage(expected) => write!(f, "{expected}; see rulebook help"),
+            Failure::Usage(usage) => write!(f, "{usage}; see rulebook help"),
             Failure::Refused(refusal) => {
                 let meaning = refusal.meaning();
                 write!(f, "refused {refusal}: {meaning}")
@@ -57,7 +90,7 @@ pub impl<T: Drop> From<Refused<T>> for Failure as FailureFromRefused {
 }
 
 // The failure to read or write a file.
-pub fn file_failure(heap: Global, tried: &'static str, file: &str, error: io::Error) -> Failure {
+pub fn file_failure(heap: Global, tried: Tried, file: &str, error: io::Error) -> Failure {
     match String::from_str(heap, file) {
         Ok(file) => Failure::File { tried, file, error },
         Err(_) => Failure::System(error),

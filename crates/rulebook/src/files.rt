@@ -1,16 +1,18 @@
 // Image files: read whole, and replaced whole.
 use crate::failure::Failure;
+use crate::failure::Tried;
 use crate::failure::file_failure;
 use block::store::BlockStore;
 use std::fs;
 use std::fs::File;
 use std::io;
 use std::io::Write;
+use crate::failure::FailureFromRefusal;
 
 pub fn load(rt: &LibcRuntime, file: &str) -> Result<BlockStore, Failure> {
     match fs::read(rt, file) {
         Ok(bytes) => Ok(image::open(bytes)?),
-        Err(error) => Err(file_failure(rt.alloc(), "read", file, error)),
+        Err(error) => Err(file_failure(rt.alloc(), Tried::Read, file, error)),
     }
 }
 
@@ -33,6 +35,6 @@ fn replace(rt: &LibcRuntime, file: &str, bytes: &[u8]) -> io::Result<()> {
 pub fn save(rt: &LibcRuntime, file: &str, bytes: &[u8]) -> Result<(), Failure> {
     match replace(rt, file, bytes) {
         Ok(()) => Ok(()),
-        Err(error) => Err(file_failure(rt.alloc(), "write", file, error)),
+        Err(error) => Err(file_failure(rt.alloc(), Tried::Write, file, error)),
     }
 }

@@ -9,6 +9,9 @@ mod task;
 use commands::Command;
 use failure::Failure;
 use std::env;
+use crate::failure::FailureDisplay;
+use crate::failure::FailureFromAlloc;
+use crate::failure::FailureFromIo;
 
 const HELP: &str = "\
 rulebook                             format, write, read and damage a store in memory, and say what happens
@@ -29,7 +32,9 @@ fn run(rt: &LibcRuntime) -> Result<(), Failure> {
             Ok(())
         }
         Command::Format { file, slots } => commands::format(rt, file, slots),
-        Command::Set { file, slot, rule } => commands::set(rt, file, slot, rule),
+        Command::Set { file, slot, network, action, ports } => {
+            commands::set(rt, file, slot, commands::rule(rt, network, action, ports)?)
+        }
         Command::Show { file } => commands::show(rt, file),
         Command::Check { file } => commands::check(rt, file),
     }

@@ -10,6 +10,9 @@ use rule::Rule;
 use rule::RuleDisplay;
 use store::Reading;
 use store::Storing;
+use crate::failure::FailureFromAlloc;
+use crate::failure::FailureFromIo;
+use crate::failure::FailureFromRefusal;
 
 const SLOTS: u32 = 4;
 

@@ -1,9 +1,6 @@
-use mathlib.Core.Path.{_≡_, _∙_}
 use native.Mathlib.Omega.{arith}
 use borrow.Author.Needs.{needs}
-use Prim.Native.Nat.{_^_, _<_}
 use Rattle.std.specs.declared.option.Option.the-variants.{None}
-use Rattle.text.specs.Numbers.{number-of}
 use Rattle.text.proofs.Decimal.{told}
 use Rattle.text.proofs.number.Needs as need
 
