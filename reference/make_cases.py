@@ -17,6 +17,7 @@ none); a refused one is answered by the three numbers of its refusal:
     put SLOT RULE                                              0
     poke OFFSET BYTE             set a byte of the memory      0
     dump                         memory, less ending zeros     0 HEX
+    image                        open the memory as an image   0 N
     rows COUNT                   new table of open rules       0
     row INDEX RULE               set a row as it is            0
     tcount, tget SLOT, tput SLOT RULE: the same on the table store
@@ -75,6 +76,9 @@ class Machine:
 
     def poke(self, offset, byte):
         self.store.memory[int(offset)] = int(byte)
+
+    def image(self):
+        return rulebook.open_image(self.store.memory).count
 
     def dump(self):
         return to_hex(self.store.memory.rstrip(b"\0"))
@@ -611,6 +615,36 @@ def random_blocks():
         case("put", chance.randrange(slots), some_rule())
 
 
+# Images
+
+def images():
+    for length in (0, 1, 511, 512, 513, 1023, 1024, 1025, 1536, 2048):
+        case("memory", 1, length, b"\x00\x00\x00\x01")
+        case("image")
+    for count in range(1, 65):
+        case("memory", count, 512 * rulebook.block_count(count), b"")
+        case("format", count)
+        case("image")
+    # Every byte 3 of the last block, with its check left wrong and set right.
+    for count in (4, 40):
+        number = rulebook.block_count(count) - 1
+        for slots in range(256):
+            case("memory", count, 512 * (number + 1), b"")
+            case("format", count)
+            case("poke", 512 * number + 3, slots)
+            if slots % 2:
+                poke_check(number)
+            case("image")
+    # Damage in either block, and in both.
+    for places in ((100,), (700,), (100, 700), (3,), (3, 515), (515, 100)):
+        case("memory", 40, 1024, b"")
+        case("format", 40)
+        for place in places:
+            case("poke", place, 0)
+            case("poke", place + 1, 77)
+        case("image")
+
+
 # The table store
 
 def tables():
@@ -665,7 +699,7 @@ def main():
     for group in (before_all, octet_texts, prefix_texts, port_texts,
                   action_texts, address_texts, space_texts, several_errors,
                   text_bytes, chance_texts, parts_cases, sizes, formats, puts,
-                  damages, whole_images, check_values, random_blocks, tables):
+                  damages, whole_images, check_values, random_blocks, tables, images):
         group()
     folder = pathlib.Path(sys.argv[1])
     folder.mkdir(parents=True, exist_ok=True)

@@ -271,6 +271,27 @@ class BlockStore(Store):
         self.memory[start:start + 2] = check.to_bytes(2, "big")
 
 
+# Images
+
+def image_count(image):
+    """How many slots an image has, told by its size and its last block."""
+    if len(image) not in (BLOCK_SIZE, 2 * BLOCK_SIZE):
+        raise Refusal(WRONG_SIZE, LAYER_STORE, 0)
+    last = len(image) // BLOCK_SIZE - 1
+    slots = image[BLOCK_SIZE * last + 3]
+    if not 1 <= slots <= BLOCK_SLOTS:
+        raise Refusal(WRONG_HEAD, LAYER_BLOCK, last)
+    return BLOCK_SLOTS * last + slots
+
+
+def open_image(image):
+    """The store in an image; refused with the first damage, if any."""
+    store = BlockStore(image, image_count(image))
+    for slot in range(store.count):
+        store.get(slot)
+    return store
+
+
 def check_table(rows):
     """The check before a table store is made."""
     if not 1 <= len(rows) <= MOST_SLOTS:

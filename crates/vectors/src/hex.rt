@@ -1,8 +1,11 @@
 // Bytes as lower-case hexadecimal digits, `-` for none.
+ghost use Prim.Native.Nat.{_<_};
 use std::alloc::AllocError;
 use std::alloc::Global;
 
-fn digit(b: u8) -> u8 {
+fn digit(b: u8) -> u8
+    ensures { λ r. ⌜ r < 16 ⌝ }
+{
     match b {
         b'0'..=b'9' => b - b'0',
         b'a'..=b'f' => b - b'a' + 10,

@@ -37,6 +37,20 @@ enum Answer {
     Dumped,
 }
 
+fn done_line(heap: Global, result: Result<(), Refusal>) -> Result<String, AllocError> {
+    match result {
+        Ok(()) => String::from_str(heap, "0"),
+        Err(refusal) => format!(heap, "{refusal}"),
+    }
+}
+
+fn rule_line(heap: Global, result: Result<Rule, Refusal>) -> Result<String, AllocError> {
+    match result {
+        Ok(rule) => format!(heap, "0 {rule}"),
+        Err(refusal) => format!(heap, "{refusal}"),
+    }
+}
+
 impl Machine {
     pub fn new(heap: Global) -> Machine {
         Machine { bytes: Vec::new(heap), count: 0, rows: Vec::new(heap) }
@@ -71,6 +85,15 @@ impl Machine {
         let count = store.count();
         self.bytes = store.into_bytes();
         count
+    }
+
+    // How many slots the memory has as an image.
+    fn image(&self) -> Result<Result<u32, Refusal>, AllocError> {
+        let copy = self.bytes.clone()?;
+        Ok(match image::open(copy) {
+            Ok(store) => Ok(store.count()),
+            Err(refusal) => Err(refusal),
+        })
     }
 
     fn table_get(&mut self, heap: Global, slot: u32) -> Result<Rule, Refusal> {
@@ -146,6 +169,10 @@ impl Machine {
                 self.poke(first, number(words, 2));
                 Answer::Done(Ok(()))
             }
+            "image" => match self.image()? {
+                Ok(count) => Answer::Counted(count),
+                Err(refusal) => Answer::Done(Err(refusal)),
+            },
             "dump" => Answer::Dumped,
             _ => return Ok(None),
         }))
@@ -176,10 +203,8 @@ impl Machine {
             None => self.on_table(heap, name, words)?,
         };
         match answer {
-            Answer::Done(Ok(())) => String::from_str(heap, "0"),
-            Answer::Done(Err(refusal)) => format!(heap, "{refusal}"),
-            Answer::Read(Ok(rule)) => format!(heap, "0 {rule}"),
-            Answer::Read(Err(refusal)) => format!(heap, "{refusal}"),
+            Answer::Done(result) => done_line(heap, result),
+            Answer::Read(result) => rule_line(heap, result),
             Answer::Counted(count) => format!(heap, "0 {count}"),
             Answer::Dumped => {
                 let digits = hex::write(heap, self.bytes.as_slice())?;
