@@ -1,0 +1,4 @@
+pub mod Sets
+pub mod Members
+mod Words
+mod WordSets
