@@ -156,7 +156,7 @@ pub impl Reading for BlockStore as BlockReading {
         ensures same { λ _. ⌜ block-entries (vec-items (now (self .exit) .bytes)) (now (self .exit) .count) ≡ block-entries (vec-items (now (self .entry) .bytes)) (now (self .entry) .count) ⌝ }
         ensures stays_sound { λ _. ⌜ (Unit {0} → Unit {0}) ⌝ }
         ensures value { λ r. ⌜ (Unit {0} → r ≡ got (block-entries (vec-items (now (self .entry) .bytes)) (now (self .entry) .count)) slot) ⌝ }
-        ensures memory { λ _. ⌜ now (self .exit) .bytes ≡ now (self .entry) .bytes ⌝ }
+        ensures memory { λ _. ⌜ now (self .exit) ≡ now (self .entry) ⌝ }
     {
         self.rule_at(slot)
     }
@@ -168,6 +168,7 @@ pub impl Storing for BlockStore as BlockStoring {
         ensures value { λ r. ⌜ (Unit {0} → r ≡ done (got (block-entries (vec-items (now (self .entry) .bytes)) (now (self .entry) .count)) slot)) ⌝ }
         ensures after { λ _. ⌜ (Unit {0} → block-entries (vec-items (now (self .exit) .bytes)) (now (self .exit) .count) ≡ put-into (block-entries (vec-items (now (self .entry) .bytes)) (now (self .entry) .count)) slot rule) ⌝ }
         ensures memory { λ _. ⌜ vec-items (now (self .exit) .bytes) ≡ put-bytes (vec-items (now (self .entry) .bytes)) (now (self .entry) .count) slot rule ⌝ }
+        ensures count { λ _. ⌜ now (self .exit) .count ≡ now (self .entry) .count ⌝ }
     {
         self.rule_at(slot)?;
         write_slot(self.bytes.as_mut_slice(), slot, rule);

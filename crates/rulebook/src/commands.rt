@@ -16,7 +16,7 @@ use crate::failure::FailureFromIo;
 use crate::failure::FailureFromRefusal;
 
 #[derive(Drop)]
-pub enum Command<'a> {
+pub(crate) enum Command<'a> {
     Task,
     Help,
     Format { file: &'a str, slots: u32 },
@@ -33,7 +33,7 @@ fn number(word: &str, usage: Usage) -> Result<u32, Failure> {
     }
 }
 
-pub fn read(words: &[String]) -> Result<Command<'_>, Failure> {
+pub(crate) fn read(words: &[String]) -> Result<Command<'_>, Failure> {
     let [first, rest @ ..] = words else {
         return Ok(Command::Task);
     };
@@ -54,12 +54,12 @@ pub fn read(words: &[String]) -> Result<Command<'_>, Failure> {
 }
 
 // The rule that three words write.
-pub fn rule(rt: &LibcRuntime, network: &str, action: &str, ports: &str) -> Result<Rule, Failure> {
+pub(crate) fn rule(rt: &LibcRuntime, network: &str, action: &str, ports: &str) -> Result<Rule, Failure> {
     let text = format!(rt.alloc(), "{network} {action} {ports}")?;
     Ok(Rule::read(text.as_bytes())?)
 }
 
-pub fn format(rt: &LibcRuntime, file: &str, slots: u32) -> Result<(), Failure> {
+pub(crate) fn format(rt: &LibcRuntime, file: &str, slots: u32) -> Result<(), Failure> {
     let mut bytes = vec![in rt.alloc(); 0u8; memory_size(slots)?]?;
     memory::format(bytes.as_mut_slice(), slots)?;
     save(rt, file, bytes.as_slice())?;
@@ -67,7 +67,7 @@ pub fn format(rt: &LibcRuntime, file: &str, slots: u32) -> Result<(), Failure> {
     Ok(())
 }
 
-pub fn set(rt: &LibcRuntime, file: &str, slot: u32, rule: Rule) -> Result<(), Failure> {
+pub(crate) fn set(rt: &LibcRuntime, file: &str, slot: u32, rule: Rule) -> Result<(), Failure> {
     let mut store = load(rt, file)?;
     store.put(slot, rule)?;
     save(rt, file, store.bytes())?;
@@ -75,7 +75,7 @@ pub fn set(rt: &LibcRuntime, file: &str, slot: u32, rule: Rule) -> Result<(), Fa
     Ok(())
 }
 
-pub fn show(rt: &LibcRuntime, file: &str) -> Result<(), Failure> {
+pub(crate) fn show(rt: &LibcRuntime, file: &str) -> Result<(), Failure> {
     let mut store = load(rt, file)?;
     for slot in 0..store.count() {
         let rule = store.get(slot)?;
@@ -84,7 +84,7 @@ pub fn show(rt: &LibcRuntime, file: &str) -> Result<(), Failure> {
     Ok(())
 }
 
-pub fn check(rt: &LibcRuntime, file: &str) -> Result<(), Failure> {
+pub(crate) fn check(rt: &LibcRuntime, file: &str) -> Result<(), Failure> {
     let store = load(rt, file)?;
     let slots = store.count();
     println!(rt, "{file}: {slots} slots, no damage")?;

@@ -9,7 +9,7 @@ use std::io;
 
 // What is wrong with the words on the command line.
 #[derive(Clone, Copy)]
-pub enum Usage {
+pub(crate) enum Usage {
     Command,
     Slots,
     Slot,
@@ -27,7 +27,7 @@ pub impl fmt::Display for Usage as UsageDisplay {
 
 // What was tried on a file.
 #[derive(Clone, Copy)]
-pub enum Tried {
+pub(crate) enum Tried {
     Read,
     Write,
 }
@@ -42,7 +42,7 @@ pub impl fmt::Display for Tried as TriedDisplay {
 }
 
 #[derive(Drop)]
-pub enum Failure {
+pub(crate) enum Failure {
     Usage(Usage),
     Refused(Refusal),
     // a file that cannot be read or written
@@ -90,7 +90,7 @@ pub impl<T: Drop> From<Refused<T>> for Failure as FailureFromRefused {
 }
 
 // The failure to read or write a file.
-pub fn file_failure(heap: Global, tried: Tried, file: &str, error: io::Error) -> Failure {
+pub(crate) fn file_failure(heap: Global, tried: Tried, file: &str, error: io::Error) -> Failure {
     match String::from_str(heap, file) {
         Ok(file) => Failure::File { tried, file, error },
         Err(_) => Failure::System(error),

@@ -9,7 +9,7 @@ use std::io;
 use std::io::Write;
 use crate::failure::FailureFromRefusal;
 
-pub fn load(rt: &LibcRuntime, file: &str) -> Result<BlockStore, Failure> {
+pub(crate) fn load(rt: &LibcRuntime, file: &str) -> Result<BlockStore, Failure> {
     match fs::read(rt, file) {
         Ok(bytes) => Ok(image::open(bytes)?),
         Err(error) => Err(file_failure(rt.alloc(), Tried::Read, file, error)),
@@ -32,7 +32,7 @@ fn replace(rt: &LibcRuntime, file: &str, bytes: &[u8]) -> io::Result<()> {
 }
 
 // Writes the bytes to a new file and gives it the name of the old one, so that whoever pulls the plug finds the old image or the new one.
-pub fn save(rt: &LibcRuntime, file: &str, bytes: &[u8]) -> Result<(), Failure> {
+pub(crate) fn save(rt: &LibcRuntime, file: &str, bytes: &[u8]) -> Result<(), Failure> {
     match replace(rt, file, bytes) {
         Ok(()) => Ok(()),
         Err(error) => Err(file_failure(rt.alloc(), Tried::Write, file, error)),

@@ -29,7 +29,7 @@ fn print_slots(rt: &LibcRuntime, store: &mut impl Reading) -> Result<(), Failure
     Ok(())
 }
 
-pub fn run(rt: &LibcRuntime) -> Result<(), Failure> {
+pub(crate) fn run(rt: &LibcRuntime) -> Result<(), Failure> {
     let mut bytes = vec![in rt.alloc(); 0u8; memory_size(SLOTS)?]?;
     memory::format(bytes.as_mut_slice(), SLOTS)?;
     let mut store = BlockStore::new(bytes, SLOTS);

@@ -100,7 +100,7 @@ pub impl Reading for TableStore as TableReading {
         ensures same { λ _. ⌜ table-entries (vec-items (now (self .exit) .rows)) ≡ table-entries (vec-items (now (self .entry) .rows)) ⌝ }
         ensures stays_sound { λ _. ⌜ (Unit {0} → Unit {0}) ⌝ }
         ensures value { λ r. ⌜ (Unit {0} → r ≡ got (table-entries (vec-items (now (self .entry) .rows))) slot) ⌝ }
-        ensures memory { λ _. ⌜ now (self .exit) .rows ≡ now (self .entry) .rows ⌝ }
+        ensures memory { λ _. ⌜ now (self .exit) ≡ now (self .entry) ⌝ }
     {
         self.rule_at(slot)
     }

@@ -14,7 +14,7 @@ fn digit(b: u8) -> u8
 }
 
 // The bytes that the digits spell, two digits to a byte.
-pub fn read(heap: Global, text: &str) -> Result<Vec<u8>, AllocError> {
+pub(crate) fn read(heap: Global, text: &str) -> Result<Vec<u8>, AllocError> {
     let mut bytes = Vec::new(heap);
     if text != "-" {
         let mut digits = text.bytes();
@@ -27,7 +27,7 @@ pub fn read(heap: Global, text: &str) -> Result<Vec<u8>, AllocError> {
 }
 
 // The bytes as digits, without the zero bytes at the end.
-pub fn write(heap: Global, bytes: &[u8]) -> Result<String, AllocError> {
+pub(crate) fn write(heap: Global, bytes: &[u8]) -> Result<String, AllocError> {
     let mut end = 0usize;
     for (i, byte) in bytes.iter().enumerate() {
         if *byte != 0 {

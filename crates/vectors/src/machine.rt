@@ -23,7 +23,7 @@ use store::table::TableStore;
 use store::table::TableStoring;
 
 #[derive(Drop)]
-pub struct Machine {
+pub(crate) struct Machine {
     bytes: Vec<u8>,
     count: u32,
     rows: Vec<Parts>,
@@ -52,7 +52,7 @@ fn rule_line(heap: Global, result: Result<Rule, Refusal>) -> Result<String, Allo
 }
 
 impl Machine {
-    pub fn new(heap: Global) -> Machine {
+    pub(crate) fn new(heap: Global) -> Machine {
         Machine { bytes: Vec::new(heap), count: 0, rows: Vec::new(heap) }
     }
 
@@ -194,7 +194,7 @@ impl Machine {
         })
     }
 
-    pub fn answer(&mut self, heap: Global, line: &str) -> Result<String, AllocError> {
+    pub(crate) fn answer(&mut self, heap: Global, line: &str) -> Result<String, AllocError> {
         let words: Vec<&str> = line.split(' ').collect(heap)?;
         let words = words.as_slice();
         let name = words.first().copied().unwrap_or("");

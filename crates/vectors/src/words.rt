@@ -2,7 +2,7 @@
 use rule::Parts;
 
 // The number at a place, 0 where there is none.
-pub fn number(words: &[&str], at: usize) -> u32 {
+pub(crate) fn number(words: &[&str], at: usize) -> u32 {
     match words.get(at) {
         Some(word) => word.parse::<u32>().unwrap_or(0),
         None => 0,
@@ -18,7 +18,7 @@ fn port(words: &[&str], at: usize) -> u16 {
 }
 
 // The five parts of a rule, from a place on.
-pub fn parts(words: &[&str], from: usize) -> Parts {
+pub(crate) fn parts(words: &[&str], from: usize) -> Parts {
     let at = from.min(1000);
     Parts {
         address: number(words, at),

@@ -1,4 +1,4 @@
-use mathlib.Core.Path.{_≡_, sym, ap, _∙_, subst}
+use mathlib.Core.Path.{_≡_, refl, sym, ap, _∙_, subst}
 use native.Mathlib.Omega.{arith}
 use Prim.Native.Nat.{_<_}
 use lib.ListN.{length, set}
@@ -40,4 +40,5 @@ returns c =
       value = λ _. sym (ap done found);
       after = λ _. ap (λ l. block-entries l k) written ∙ set-entry bytes k x r q size below rule ∙ sym (put-where-got (block-entries bytes k) x r q found);
       memory = written ∙ sym (cond-true (isOk (got (block-entries bytes k) x)) (with-rule bytes x r) bytes (ap isOk found));
+      count = refl;
     }
