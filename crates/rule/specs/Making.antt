@@ -11,14 +11,17 @@ use Rattle.rule.specs.declared.Action.the-variants.{Allow, Block}
 use Rattle.rule.specs.declared.Parts.{Parts}
 use Rattle.rule.specs.declared.Rule.{Rule}
 
+-- the number of an action in a row or a record
 abbrev pub action-number : Action → ℕ
 action-number Allow = 0
 action-number Block = 1
 
+-- the action with a number, which is 0 or 1
 abbrev pub numbered : ℕ → Action
 numbered zero = Allow
 numbered (suc n) = Block
 
+-- the parts of a rule
 abbrev pub parts-of : Rule → Parts
 parts-of r = record { address = r .address; prefix = r .prefix; action = action-number (r .action); first = r .first; last = r .last }
 
@@ -36,6 +39,7 @@ pub record MakesRule (p : Parts) : Type 0 where
   pub port : p .last < 2 ^ 16
   pub known : p .action ≤ 1
 
+-- the test tells the facts
 pub facts : (p : Parts) → makes-rule p ≡ true → MakesRule p
 facts p e =
     let wide = and-parts _ _ e in
@@ -67,6 +71,7 @@ rule-with p e = record {
   port = e .port;
 }
 
+-- the rule, where the test says that there is one
 abbrev pub make-where : (p : Parts) (b : Bool) → makes-rule p ≡ b → Option Rule
 make-where p true e = Some (rule-with p (facts p e))
 make-where p false e = None
@@ -75,6 +80,7 @@ make-where p false e = None
 unfoldable pub make : Parts → Option Rule
 make p = make-where p (makes-rule p) refl
 
+-- the parts of the open rule
 abbrev pub open-parts : Parts
 open-parts = record { address = 0; prefix = 0; action = 0; first = 0; last = 65535 }
 
