@@ -1,0 +1,16 @@
+pub mod Phases
+pub mod Desks
+pub mod Pause
+pub mod Begin
+pub mod Fetch
+pub mod Read
+pub mod Write
+pub mod Drop
+pub mod Receipt
+pub mod Truncate
+pub mod Strikes
+pub mod Learn
+pub mod Abort
+pub mod Forward
+pub mod Commits
+pub mod Commit

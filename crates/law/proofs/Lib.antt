@@ -1,0 +1,5 @@
+pub mod Lists
+pub mod Reorder
+pub mod Stamps
+pub mod Runs
+pub mod Places
