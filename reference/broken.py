@@ -5,7 +5,7 @@
 looks by chance for histories in which a broken book breaks the law, makes
 them short, and writes them to broken_histories.txt beside this file. For
 each fault there is one history for each part of the law that it was seen to
-break. The file is the same at every run.
+break (one can stand for two parts). The file is the same at every run.
 
     python3 reference/broken.py --seen N
 
@@ -330,7 +330,8 @@ BROKEN = (
     NoReceiptCheck, LearnEndsNoChange, StalePlaceIsHighest)
 
 
-# Books that keep the law, but answer otherwise than the right one.
+# Books in which no breach of the three parts is found. They answer otherwise
+# than the right one, so that the scripts are to find them.
 
 class KeepsOlderNotice(Book):
     """a notice does not come in place of an older one"""
@@ -489,7 +490,7 @@ class ReceiptBelowOnly(Book):
         super().take_notices(session, upto - 1)
 
 
-LAWFUL = (
+UNSEEN_BY_LAW = (
     KeepsOlderNotice, DropTakesNotice, NoticeToAll, PendingOfCommitted,
     StaleBeforePending, PendingBeforeLater, LaterBeforeRoom, PhaseBeforeSlot,
     TruncateLeavesLast, TruncateByStamp, LearnTakesNotices,
@@ -510,8 +511,14 @@ def run(made, calls):
     return answers, breaches
 
 
-def parts_broken(made, calls):
-    return {breach.part for breach in run(made, calls)[1]}
+def kind_of(breach):
+    """What is searched for: a part of the law, and whether it is broken by
+    nothing more than the same stamp twice."""
+    return breach.part, breach.words.endswith("same stamp")
+
+
+def kinds_broken(made, calls):
+    return {kind_of(breach) for breach in run(made, calls)[1]}
 
 
 def some_calls(made, number):
@@ -549,18 +556,18 @@ def shorter(calls):
                    + calls[second + 1:])
 
 
-def shrink(made, calls, part):
-    """As few of the calls as still break this part, with plain numbers."""
+def shrink(made, calls, kind):
+    """As few of the calls as still break the law so, with plain numbers."""
     found = True
     while found:
         found = False
         for fewer in shorter(calls):
-            if part in parts_broken(made, fewer):
+            if kind in kinds_broken(made, fewer):
                 calls = fewer
                 found = True
                 break
     for plain in plainer(calls):
-        if part in parts_broken(made, plain):
+        if kind in kinds_broken(made, plain):
             return plain
     return calls
 
@@ -594,7 +601,7 @@ def text_of(calls):
 
 
 def search(made):
-    """The shortest history found for each part that the book breaks."""
+    """The shortest history found for each kind of breach."""
     tried = {}
     best = {}
     for number in range(TRIES):
@@ -602,14 +609,14 @@ def search(made):
                 and number > TRIES // 4:
             break
         calls = some_calls(made, number)
-        for part in sorted(parts_broken(made, calls)):
-            if part == "run" or tried.get(part, 0) >= SHRUNK:
+        for kind in sorted(kinds_broken(made, calls)):
+            if kind[0] == "run" or tried.get(kind, 0) >= SHRUNK:
                 continue
-            tried[part] = tried.get(part, 0) + 1
-            short = shrink(made, calls, part)
-            if part not in best or (len(short), text_of(short)) < (
-                    len(best[part]), text_of(best[part])):
-                best[part] = short
+            tried[kind] = tried.get(kind, 0) + 1
+            short = shrink(made, calls, kind)
+            if kind not in best or (len(short), text_of(short)) < (
+                    len(best[kind]), text_of(best[kind])):
+                best[kind] = short
     return best
 
 
@@ -623,16 +630,16 @@ book, given the same lines, answers otherwise, its answer follows in brackets.
 """
 
 
-def show(made, part, calls):
+def show(made, kind, calls):
     """The history as text."""
     answers, breaches = run(made, calls)
     right_answers, right_breaches = run(Book, calls)
     assert not right_breaches
     yield f"fault: {made.__doc__}"
     for breach in breaches:
-        if breach.part == part:
-            yield f"breaks ({part}): {breach.words}"
-    others = sorted({breach.part for breach in breaches} - {part})
+        if kind_of(breach) == kind:
+            yield f"breaks ({breach.part}): {breach.words}"
+    others = sorted({breach.part for breach in breaches} - {kind[0]})
     if others:
         yield "also broken: " + ", ".join(f"({other})" for other in others)
     for number, call in enumerate(calls, 1):
@@ -663,23 +670,25 @@ def write_file():
     pieces = [HEADING]
     for made in BROKEN:
         best = search(made)
-        told = ", ".join(f"({part}) in {len(best[part])} lines"
-                         for part in sorted(best)) or "NOTHING FOUND"
+        told = ", ".join(
+            f"({part}{', same stamp' if same_stamp else ''}) in"
+            f" {len(best[part, same_stamp])} lines"
+            for part, same_stamp in sorted(best)) or "NOTHING FOUND"
         print(f"{made.__doc__}: {told}", flush=True)
         shown = []
-        for part in sorted(best):
+        for kind in sorted(best):
             # One history can stand for several parts.
-            if best[part] in shown:
+            if best[kind] in shown:
                 continue
-            shown.append(best[part])
-            pieces.append("\n".join(show(made, part, best[part])) + "\n")
+            shown.append(best[kind])
+            pieces.append("\n".join(show(made, kind, best[kind])) + "\n")
     FILE.write_text("\n".join(pieces))
 
 
 def seen(count):
     """In how many scripts a broken book is seen by its answers alone."""
     histories = [make_scripts.History(number) for number in range(count)]
-    for made in BROKEN + LAWFUL:
+    for made in BROKEN + UNSEEN_BY_LAW:
         differing = sum(
             history.answers_of(made) != history.answer_lines()
             for history in histories)

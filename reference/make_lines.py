@@ -15,7 +15,6 @@ import random
 import sys
 
 import lines
-import rulebook
 from lines import CLOCK, TICKET, Call
 from rulebook import Rule
 

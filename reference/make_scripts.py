@@ -95,7 +95,9 @@ class Maker:
         self.style = style
         self.book = the_book
         self.kind = kind
-        self.latest = chance.choice((0, 0, 10, 1000))
+        self.latest = chance.choice((0, 0, 10, 1000, 2 ** 31 - 20,
+                                     self.highest() - 20,
+                                     self.highest() - 5000))
         self.plan = []  # calls to come next
 
     def line(self):
@@ -192,7 +194,8 @@ class Maker:
         if stamps and chance.randrange(2):
             time, station = chance.choice(stamps)
             if self.kind is CLOCK and chance.randrange(3) == 0:
-                return time, max(0, station + chance.choice((-1, 1)))
+                station += chance.choice((-1, 1))
+                return time, min(max(0, station), lines.HIGHEST_16)
             return self.stamp_at(
                 max(0, time + chance.choice((-2, -1, 0, 0, 1, 2))), station)
         if chance.randrange(60) == 0:
@@ -202,11 +205,15 @@ class Maker:
             chance.randint(earliest, max(earliest, self.latest) + 4))
 
     def stamp_at(self, time, station=None):
+        time = min(time, self.highest())
         if self.kind is TICKET:
             return time, 0
         if station is None:
-            station = self.chance.choice((0, 1, 1, 2))
+            station = self.chance.choice((0, 1, 1, 2, 65535))
         return time, station
+
+    def highest(self):
+        return lines.HIGHEST_64 if self.kind is CLOCK else lines.HIGHEST_32
 
     def some_number(self, number):
         """A number for a receipt of this session, if there is one."""

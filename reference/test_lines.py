@@ -1,6 +1,8 @@
 """Checks of lines and answers, with what is wanted worked out by hand."""
 
+import ipaddress
 import random
+import re
 import sys
 
 import lines
@@ -172,6 +174,49 @@ for number, value, text in (
         (9, Learnt(3, (1, 5), True), b"9 0 3 1,5 1"),
         (10, Learnt(0, (63,), False), b"10 0 0 63 0")):
     same(lines.write_answer(number, value), text)
+
+# Whether a line can be read at all, against a regular expression and the
+# ipaddress module.
+NUMBER = rb"(0|[1-9][0-9]*)"
+OCTET = rb"(?:[0-9]|[1-9][0-9]|1[0-9]{2}|2[0-4][0-9]|25[0-5])"
+STAMPS = {CLOCK: NUMBER + rb"\." + NUMBER, TICKET: NUMBER}
+STAMP_LIMITS = {CLOCK: (2 ** 64, 2 ** 16), TICKET: (2 ** 32,)}
+RULE = (rb"((?:" + OCTET + rb"\.){3}" + OCTET + rb"/" + NUMBER + rb") (?:allow|block) "
+        + NUMBER + rb"-" + NUMBER)
+
+
+def number_of_refusal(line, kind):
+    """0, 20 or 21."""
+    stamp, stamp_limits = STAMPS[kind], STAMP_LIMITS[kind]
+    for pattern, limits in (
+            (rb"[bcal] " + NUMBER, (2 ** 32,)),
+            (rb"[frdk] " + NUMBER + rb" " + NUMBER, (2 ** 32, 2 ** 32)),
+            (rb"p " + NUMBER + rb" " + stamp, (2 ** 32, *stamp_limits)),
+            (rb"t " + stamp, stamp_limits),
+            (rb"w " + NUMBER + rb" " + NUMBER + rb" " + RULE,
+             (2 ** 32, 2 ** 32, None, 256, 65536, 65536))):
+        match = re.fullmatch(pattern, line, re.DOTALL)
+        if match is None or len(line) > 80:
+            continue
+        groups = match.groups()
+        if any(limit is not None and int(group) >= limit
+               for group, limit in zip(groups, limits, strict=True)):
+            return 21
+        if None in limits:
+            try:
+                ipaddress.IPv4Network(groups[2].decode())
+            except ValueError:
+                return 20
+            return 20 if int(groups[4]) > int(groups[5]) else 0
+        return 0
+    return 21
+
+
+for kind in lines.KINDS:
+    for line in make_lines.all_lines(kind):
+        got = read(line, kind)
+        same((line, 0 if isinstance(got, Call) else got[0]),
+             (line, number_of_refusal(line, kind)))
 
 # A line that can be read is the text of its call, and the other way about.
 chance = random.Random(3)

@@ -140,6 +140,22 @@ refused_with 'rulebook: refused 17 1 1: the check of a block differs' check bad.
 done_with 'bad.img: 2 open rules' format bad.img 2
 done_with 'bad.img: 2 slots, no damage' check bad.img
 
+# lines that are only read
+printf 'w 0 3 192.0.2.0/24 block 0-65535\np 0 7.1\nz\n' >script
+done_with '1 0
+2 0
+3 21 4 0' lint script
+printf 'p 0 7\nb 0\r\n\nt 4294967296' >script
+done_with '1 0
+2 21 4 2
+3 21 4 0
+4 21 4 2' lint --stamps ticket script
+: >script
+done_with '' lint script
+refused_with 'rulebook: cannot read gone.txt: No such file or directory (os error 2)' lint gone.txt
+refused_with 'rulebook: the stamps are clock or ticket; see rulebook help' lint --stamps sundial
+refused_with 'rulebook: no such command, or not its words; see rulebook help' lint --stamps ticket script script
+
 if [ "$failures" -gt 0 ]; then
     echo "tests/program.sh: $failures failures in $cases cases"
     exit 1

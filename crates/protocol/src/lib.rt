@@ -1,9 +1,12 @@
 // The eleven calls of the book and its answers, as values.
 //
 // A call names its session, and what it asks of it; only a truncation has no session. An answer is a value, or the refusal.
+mod texts;
+
 use refusal::Refusal;
 use rule::Rule;
 use slots::SlotSet;
+pub use texts::CallDisplay;
 
 #[derive(Clone, Copy)]
 pub enum Call<S> {
@@ -40,7 +43,11 @@ pub enum Answer {
     // the notice number
     Numbered(u32),
     // the number learnt, the slots with notices, and whether a change ended
-    Learnt { number: u32, slots: SlotSet, ended: bool },
+    Learnt {
+        number: u32,
+        slots: SlotSet,
+        ended: bool,
+    },
     // how many entries left the queue
     Removed(u32),
     Refused(Refusal),

@@ -15,6 +15,13 @@ use crate::failure::FailureFromAlloc;
 use crate::failure::FailureFromIo;
 use crate::failure::FailureFromRefusal;
 
+// The kinds of stamp.
+#[derive(Clone, Copy)]
+pub(crate) enum Kind {
+    Clock,
+    Ticket,
+}
+
 #[derive(Drop)]
 pub(crate) enum Command<'a> {
     Task,
@@ -23,6 +30,7 @@ pub(crate) enum Command<'a> {
     Set { file: &'a str, slot: u32, network: &'a str, action: &'a str, ports: &'a str },
     Show { file: &'a str },
     Check { file: &'a str },
+    Lint { stamps: Kind, script: Option<&'a str> },
 }
 
 // A number as the formats have it: decimal, within 32 bits, no leading zero.
@@ -33,11 +41,37 @@ fn number(word: &str, usage: Usage) -> Result<u32, Failure> {
     }
 }
 
+fn kind_of(word: &str) -> Result<Kind, Failure> {
+    match word {
+        "clock" => Ok(Kind::Clock),
+        "ticket" => Ok(Kind::Ticket),
+        _ => Err(Failure::Usage(Usage::Stamps)),
+    }
+}
+
+// The words behind `lint`.
+fn lint(words: &[String]) -> Result<Command<'_>, Failure> {
+    match words {
+        [] => Ok(Command::Lint { stamps: Kind::Clock, script: None }),
+        [script] => Ok(Command::Lint { stamps: Kind::Clock, script: Some(script.as_str()) }),
+        [option, stamps, rest @ ..] if option.as_str() == "--stamps" => {
+            let stamps = kind_of(stamps.as_str())?;
+            match rest {
+                [] => Ok(Command::Lint { stamps, script: None }),
+                [script] => Ok(Command::Lint { stamps, script: Some(script.as_str()) }),
+                _ => Err(Failure::Usage(Usage::Command)),
+            }
+        }
+        _ => Err(Failure::Usage(Usage::Command)),
+    }
+}
+
 pub(crate) fn read(words: &[String]) -> Result<Command<'_>, Failure> {
     let [first, rest @ ..] = words else {
         return Ok(Command::Task);
     };
     match (first.as_str(), rest) {
+        ("lint", words) => lint(words),
         ("help", []) => Ok(Command::Help),
         ("format", [file, slots]) => Ok(Command::Format { file: file.as_str(), slots: number(slots.as_str(), Usage::Slots)? }),
         ("set", [file, slot, network, action, ports]) => Ok(Command::Set {

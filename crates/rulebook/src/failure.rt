@@ -13,6 +13,7 @@ pub(crate) enum Usage {
     Command,
     Slots,
     Slot,
+    Stamps,
 }
 
 pub impl fmt::Display for Usage as UsageDisplay {
@@ -21,6 +22,7 @@ pub impl fmt::Display for Usage as UsageDisplay {
             Usage::Command => write!(f, "no such command, or not its words"),
             Usage::Slots => write!(f, "SLOTS is a decimal number"),
             Usage::Slot => write!(f, "SLOT is a decimal number"),
+            Usage::Stamps => write!(f, "the stamps are clock or ticket"),
         }
     }
 }

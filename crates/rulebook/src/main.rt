@@ -4,6 +4,7 @@
 mod commands;
 mod failure;
 mod files;
+mod lint;
 mod task;
 
 use commands::Command;
@@ -14,12 +15,14 @@ use crate::failure::FailureFromAlloc;
 use crate::failure::FailureFromIo;
 
 const HELP: &str = "\
-rulebook                             format, write, read and damage a store in memory, and say what happens
-rulebook format FILE SLOTS           a new image of SLOTS open rules (1 to 64)
-rulebook set FILE SLOT RULE          put a rule into a slot
-rulebook show FILE                   the rule of every slot
-rulebook check FILE                  whether the image is whole
-rulebook help                        this text
+rulebook                                 format, write, read and damage a store in memory, and say what happens
+rulebook format FILE SLOTS               a new image of SLOTS open rules (1 to 64)
+rulebook set FILE SLOT RULE              put a rule into a slot
+rulebook show FILE                       the rule of every slot
+rulebook check FILE                      whether the image is whole
+rulebook lint [--stamps KIND] [SCRIPT]   for each line of a script its number and 0, or why it is no call
+rulebook help                            this text
+KIND is clock or ticket, and clock if it is left out. Without SCRIPT, standard input is read.
 A RULE is three words, ADDRESS/PREFIX ACTION FIRST-LAST, as in 192.0.2.0/24 block 0-65535.
 ";
 
@@ -37,6 +40,7 @@ fn run(rt: &LibcRuntime) -> Result<(), Failure> {
         }
         Command::Show { file } => commands::show(rt, file),
         Command::Check { file } => commands::check(rt, file),
+        Command::Lint { stamps, script } => lint::run(rt, stamps, script),
     }
 }
 

@@ -7,11 +7,18 @@ mod ticket;
 
 ghost use mathlib.Core.Path.{_≡_};
 ghost use mathlib.Core.Bool.{false};
+ghost use mathlib.Core.List.{List};
+ghost use Prim.Native.Nat.{ℕ, _≤_};
+ghost use lib.ListN.{length};
+ghost use Rattle.std.specs.declared.option.Option.{Option};
+ghost use Rattle.std.specs.declared.option.Option.the-variants.{Some};
+ghost use Rattle.stamp.specs.Lacking.{Unspaced};
 ghost use Rattle.stamp.specs.declared.Key.{Key};
 ghost use Rattle.stamp.specs.Order.{key-before};
 pub use clock::ClockOrder;
 pub use clock::ClockStamp;
 pub use clock::ClockStampDisplay;
+use std::fmt::Display;
 pub use ticket::Ticket;
 pub use ticket::TicketDisplay;
 pub use ticket::TicketOrder;
@@ -35,14 +42,37 @@ impl Key {
 }
 
 // A kind of stamp.
-pub trait Stamp: Copy {
+pub trait Stamp: Copy + Display {
     ghost key_of: { Self → Key };
+
+    // how a stamp is written
+    ghost text: { Self → List ℕ };
+
+    // the stamp that a field writes
+    ghost reads: { List ℕ → Option Self };
 
     // different stamps have different keys
     law apart: { (x y : Self) → «key_of» x ≡ «key_of» y → x ≡ y };
 
+    // the text of a stamp reads as that stamp
+    law reads_back: { (x : Self) → reads (text x) ≡ Some x };
+
+    // and no other text does
+    law one_text: { (bs : List ℕ) (x : Self) → reads bs ≡ Some x → bs ≡ text x };
+
+    // it stands in one field of a line
+    law no_space: { (x : Self) → Unspaced (text x) };
+
+    law short: { (x : Self) → length (text x) ≤ 40 };
+
+    // and is what `{}` writes
+    law shows: { (x : Self) → Self·Display .shown x ≡ Some (text x) };
+
     fn key(self) -> Key
         ensures { λ r. ⌜ r ≡ «key_of» self ⌝ };
+
+    fn read(field: &[u8]) -> Option<Self>
+        ensures { λ r. ⌜ r ≡ reads (now (field .entry)) ⌝ };
 
     // Whether this stamp is the earlier one: exactly where its key is the smaller one.
     // Where neither of two stamps is before the other, they are equal.
