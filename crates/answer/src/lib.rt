@@ -2,8 +2,6 @@
 //
 // `specs/Texts.antt` sets out the text of every answer: the line's number, the result, and then the value, or layer and place.
 mod slot_list;
-#[cfg(test)]
-mod tests;
 
 ghost use Rattle.std.specs.declared.option.Option.the-variants.{Some};
 ghost use Rattle.answer.specs.Texts.{line-text};

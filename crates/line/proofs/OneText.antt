@@ -30,7 +30,7 @@ use Rattle.protocol.specs.declared.Call.{Call}
 use Rattle.protocol.specs.declared.Call.the-variants.{Begin, Fetch, Read, Write, Drop, Forward, Commit, Abort, Learn, Receipt, Truncate}
 use Rattle.protocol.specs.Texts.{call-text}
 use Rattle.line.specs.Cutting.{placed}
-use Rattle.line.specs.Reading.{Form, of-session, of-numbers, of-rule, of-change, of-stamp, form, form-of, Kind, kinds, number, readable, first-wrong, place, call-in, refuse-or, read-form, read-fields, call-of}
+use Rattle.line.specs.Reading.{Form, of-session, of-numbers, of-rule, of-change, of-stamp, form, form-of, Kind, kinds, numeral, readable, first-wrong, place, call-in, refuse-or, read-form, read-fields, call-of}
 
 -- the bytes of fields
 abbrev texts : List (ℕ × List ℕ) → List (List ℕ)
@@ -41,7 +41,7 @@ texts-placed : (at : ℕ) (fs : List (List ℕ)) → texts (placed at fs) ≡ fs
 texts-placed at [] = refl
 texts-placed at (f ∷ fs) = ap (λ l. f ∷ l) (texts-placed (at + length f + 1) fs)
 
-number-text : (f : List ℕ) (n : ℕ) → number f ≡ Some n → f ≡ decimal n
+number-text : (f : List ℕ) (n : ℕ) → numeral f ≡ Some n → f ≡ decimal n
 number-text f n e = decimal-number 4294967295 n f (omega arith) e .0
 
 rule-by : (f g h : List ℕ) (r : Rule) (x y : ℕ × ℕ) (a : Action) → f ≡ network-text (x .0) (x .1) → g ≡ action-text a → h ≡ ports-text (y .0) (y .1) → r .address ≡ x .0 → r .prefix ≡ x .1 → r .action ≡ a → r .first ≡ y .0 → r .last ≡ y .1 → f ++ 32 ∷ (g ++ 32 ∷ h) ≡ text r
@@ -96,7 +96,7 @@ module _ {S : Type 0} (reads : List ℕ → Option S) (stamp : S → List ℕ) (
     where
       by : (fs : List (ℕ × List ℕ)) → length fs ≡ 1 → call-in reads (of-session call) fs ≡ Some c → spaced ((b ∷ []) ∷ texts fs) ≡ call-text stamp c
       by [] n h = absurd (omega arith)
-      by (f ∷ []) n h = let s = mapped-parts call (number (f .1)) c h in ap (λ l. b ∷ 32 ∷ l) (number-text (f .1) (s .0) (s .1)) ∙ is (s .0) ∙ ap (call-text stamp) (s .2)
+      by (f ∷ []) n h = let s = mapped-parts call (numeral (f .1)) c h in ap (λ l. b ∷ 32 ∷ l) (number-text (f .1) (s .0) (s .1)) ∙ is (s .0) ∙ ap (call-text stamp) (s .2)
       by (f ∷ g ∷ fs) n h = absurd (omega arith)
 
   written-numbers : (b : ℕ) (call : ℕ → ℕ → Call S) → ((s n : ℕ) → b ∷ 32 ∷ decimal s ++ 32 ∷ decimal n ≡ call-text stamp (call s n)) → Written b (Some (of-numbers call))
@@ -106,8 +106,8 @@ module _ {S : Type 0} (reads : List ℕ → Option S) (stamp : S → List ℕ) (
       by [] n h = absurd (omega arith)
       by (f ∷ []) n h = absurd (omega arith)
       by (f ∷ g ∷ []) n h =
-          let s = then-parts (number (f .1)) _ c h in
-          let m = mapped-parts (call (s .0)) (number (g .1)) c (s .2) in
+          let s = then-parts (numeral (f .1)) _ c h in
+          let m = mapped-parts (call (s .0)) (numeral (g .1)) c (s .2) in
           let x = number-text (f .1) (s .0) (s .1) in
           let y = number-text (g .1) (m .0) (m .1) in
           (λ i. b ∷ 32 ∷ x i ++ 32 ∷ y i) ∙ is (s .0) (m .0) ∙ ap (call-text stamp) (m .2)
@@ -120,7 +120,7 @@ module _ {S : Type 0} (reads : List ℕ → Option S) (stamp : S → List ℕ) (
       by [] n h = absurd (omega arith)
       by (f ∷ []) n h = absurd (omega arith)
       by (f ∷ g ∷ []) n h =
-          let s = then-parts (number (f .1)) _ c h in
+          let s = then-parts (numeral (f .1)) _ c h in
           let m = mapped-parts (call (s .0)) (reads (g .1)) c (s .2) in
           let x = number-text (f .1) (s .0) (s .1) in
           let y = one (g .1) (m .0) (m .1) in
@@ -145,8 +145,8 @@ module _ {S : Type 0} (reads : List ℕ → Option S) (stamp : S → List ℕ) (
       by (f ∷ g ∷ i ∷ []) n h = absurd (omega arith)
       by (f ∷ g ∷ i ∷ j ∷ []) n h = absurd (omega arith)
       by (f ∷ g ∷ i ∷ j ∷ k ∷ []) n h =
-          let s = then-parts (number (f .1)) _ c h in
-          let m = then-parts (number (g .1)) _ c (s .2) in
+          let s = then-parts (numeral (f .1)) _ c h in
+          let m = then-parts (numeral (g .1)) _ c (s .2) in
           let q = then-parts (parts-in (i .1 ∷ j .1 ∷ k .1 ∷ [])) _ c (m .2) in
           let r = mapped-parts (Write (s .0) (m .0)) (make (q .0)) c (q .2) in
           let x = number-text (f .1) (s .0) (s .1) in

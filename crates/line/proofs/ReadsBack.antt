@@ -33,9 +33,9 @@ use Rattle.protocol.specs.declared.Call.{Call}
 use Rattle.protocol.specs.declared.Call.the-variants.{Begin, Fetch, Read, Write, Drop, Forward, Commit, Abort, Learn, Receipt, Truncate}
 use Rattle.protocol.specs.Texts.{call-text, Fits}
 use Rattle.line.specs.Cutting.{placed}
-use Rattle.line.specs.Reading.{Form, of-session, of-numbers, of-rule, of-change, of-stamp, form, number, refuse-or, read-form, read-fields, call-of}
+use Rattle.line.specs.Reading.{Form, of-session, of-numbers, of-rule, of-change, of-stamp, form, numeral, refuse-or, read-form, read-fields, call-of}
 
-number-back : (n : ℕ) → n < 2 ^ 32 → number (decimal n) ≡ Some n
+number-back : (n : ℕ) → n < 2 ^ 32 → numeral (decimal n) ≡ Some n
 number-back n h = number-decimal 4294967295 n (omega arith) (omega arith)
 
 no-space-number : (n : ℕ) → n < 2 ^ 32 → Lacks 32 (decimal n)
@@ -119,7 +119,7 @@ module _ {S : Type 0} (reads : List ℕ → Option S) (stamp : S → List ℕ) (
       ∙ (λ i. refuse-or (cond (isSome (x i)) (cond (isSome (y i)) None (Some (2 + length (decimal s) + 1))) (Some 2)) (andThen (x i) (λ s. mapped (call s) (y i))) 0))
 
   -- the six fields of a write
-  read-six : (end at bt ct dt et : ℕ) (f g h i j : List ℕ) (s n : ℕ) (r : Rule) → number f ≡ Some s → number g ≡ Some n → network-of h ≡ Some (r .address, r .prefix) → action-of i ≡ Some (r .action) → ports-of j ≡ Some (r .first, r .last) → make (parts-of r) ≡ Some r → read-form reads end (Some (of-rule Write)) ((at, f) ∷ (bt, g) ∷ (ct, h) ∷ (dt, i) ∷ (et, j) ∷ []) ≡ Ok (Write s n r)
+  read-six : (end at bt ct dt et : ℕ) (f g h i j : List ℕ) (s n : ℕ) (r : Rule) → numeral f ≡ Some s → numeral g ≡ Some n → network-of h ≡ Some (r .address, r .prefix) → action-of i ≡ Some (r .action) → ports-of j ≡ Some (r .first, r .last) → make (parts-of r) ≡ Some r → read-form reads end (Some (of-rule Write)) ((at, f) ∷ (bt, g) ∷ (ct, h) ∷ (dt, i) ∷ (et, j) ∷ []) ≡ Ok (Write s n r)
   read-six end at bt ct dt et f g h i j s n r p q t u v w =
       (λ k. refuse-or (cond (isSome (p k)) (cond (isSome (q k)) (cond (isSome (t k)) (cond (isSome (u k)) (cond (isSome (v k)) None (Some et)) (Some dt)) (Some ct)) (Some bt)) (Some at))
       (andThen (p k) (λ s. andThen (q k) (λ n. andThen (andThen (t k) (λ x. andThen (u k) (λ a. mapped (λ y. record { address = x .0; prefix = x .1; action = action-number a; first = y .0; last = y .1 }) (v k)))) (λ m. mapped (Write s n) (make m))))) ct)

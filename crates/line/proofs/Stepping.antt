@@ -24,7 +24,7 @@ use Rattle.protocol.specs.declared.Call.the-variants.{Begin, Fetch, Read, Write
 use Rattle.line.specs.declared.cutting.Line.{Line}
 use Rattle.line.specs.declared.cutting.Line.the-variants.{Empty, One, Two, Three, Four, Five, Six, More, TooLong}
 use Rattle.line.specs.Cutting.{placed, parts, is-too-long, cut-of, first-of, rest-of}
-use Rattle.line.specs.Reading.{Form, of-session, of-numbers, of-rule, of-change, of-stamp, form, form-of, kinds, number, first-wrong, place, call-in, refuse-or, read-form, read-fields, call-of}
+use Rattle.line.specs.Reading.{Form, of-session, of-numbers, of-rule, of-change, of-stamp, form, form-of, kinds, numeral, first-wrong, place, call-in, refuse-or, read-form, read-fields, call-of}
 use Rattle.line.specs.Steps.{next, first-as, no-more, last-as, two-as, parts-as, rule-as, write-as, session-as, numbers-as, by-letter, letter-of, with-letter, fields-as}
 
 next-next : {X Y Z : Type 0} (m : Result X Refusal) (k : X → Result Y Refusal) (l : Y → Result Z Refusal) → next (next m k) l ≡ next m (λ x. next (k x) l)
@@ -61,7 +61,7 @@ module _ {S : Type 0} (reads : List ℕ → Option S) (end : ℕ) where
 
   session-same : (call : ℕ → Call S) (fs : List (ℕ × List ℕ)) → session-as call end fs ≡ read-form reads end (Some (of-session call)) fs
   session-same call [] = refl
-  session-same call (f ∷ fs) = last-step (f .0) (number (f .1)) fs _ _ _ (λ s e. ap (λ o. okOr (mapped call o) (NoRule (place 2 (f ∷ fs)))) (sym e))
+  session-same call (f ∷ fs) = last-step (f .0) (numeral (f .1)) fs _ _ _ (λ s e. ap (λ o. okOr (mapped call o) (NoRule (place 2 (f ∷ fs)))) (sym e))
 
   stamp-same : (call : S → Call S) (fs : List (ℕ × List ℕ)) → next (last-as reads end fs) (λ s. Ok (call s)) ≡ read-form reads end (Some (of-stamp call)) fs
   stamp-same call [] = refl
@@ -80,13 +80,13 @@ module _ {S : Type 0} (reads : List ℕ → Option S) (end : ℕ) where
 
   numbers-same : (call : ℕ → ℕ → Call S) (fs : List (ℕ × List ℕ)) → numbers-as call end fs ≡ read-form reads end (Some (of-numbers call)) fs
   numbers-same call [] = refl
-  numbers-same call (f ∷ []) = one-by {Y = ℕ × ℕ} (f .0) (number (f .1)) _ _ _
-  numbers-same call (f ∷ g ∷ fs) = two-by call (f .0) (g .0) (number (f .1)) (number (g .1)) fs _ _ refl
+  numbers-same call (f ∷ []) = one-by {Y = ℕ × ℕ} (f .0) (numeral (f .1)) _ _ _
+  numbers-same call (f ∷ g ∷ fs) = two-by call (f .0) (g .0) (numeral (f .1)) (numeral (g .1)) fs _ _ refl
 
-  change-same : (call : ℕ → S → Call S) (fs : List (ℕ × List ℕ)) → next (two-as number reads end fs) (λ p. Ok (call (p .0) (p .1))) ≡ read-form reads end (Some (of-change call)) fs
+  change-same : (call : ℕ → S → Call S) (fs : List (ℕ × List ℕ)) → next (two-as numeral reads end fs) (λ p. Ok (call (p .0) (p .1))) ≡ read-form reads end (Some (of-change call)) fs
   change-same call [] = refl
-  change-same call (f ∷ []) = one-by {Y = ℕ × S} (f .0) (number (f .1)) _ _ _
-  change-same call (f ∷ g ∷ fs) = two-by call (f .0) (g .0) (number (f .1)) (reads (g .1)) fs _ _ refl
+  change-same call (f ∷ []) = one-by {Y = ℕ × S} (f .0) (numeral (f .1)) _ _ _
+  change-same call (f ∷ g ∷ fs) = two-by call (f .0) (g .0) (numeral (f .1)) (reads (g .1)) fs _ _ refl
 
   rule-one : (at : ℕ) (o : Option (ℕ × ℕ)) (c : Option (Call S)) (r q : ℕ) (then : Rule → Result (Call S) Refusal) → next (next {X = Parts} (next {X = ℕ × ℕ} {Y = Parts} (okOr o (Unreadable at)) (λ n. Err (Unreadable end))) (λ p. okOr (make p) (NoRule q))) then ≡ refuse-or (cond (isSome o) (Some end) (Some at)) c r
   rule-one at None c r q then = refl
@@ -110,14 +110,14 @@ module _ {S : Type 0} (reads : List ℕ → Option S) (end : ℕ) where
 
   write-same : (fs : List (ℕ × List ℕ)) → write-as end fs ≡ read-form reads end (Some (of-rule Write)) fs
   write-same [] = refl
-  write-same (f ∷ []) = step (f .0) (number (f .1)) _ (Some end) _ _ (λ s e. refl)
-  write-same (f ∷ g ∷ []) = step (f .0) (number (f .1)) _ _ _ _ (λ s e. step (g .0) (number (g .1)) _ (Some end) _ _ (λ l d. refl))
+  write-same (f ∷ []) = step (f .0) (numeral (f .1)) _ (Some end) _ _ (λ s e. refl)
+  write-same (f ∷ g ∷ []) = step (f .0) (numeral (f .1)) _ _ _ _ (λ s e. step (g .0) (numeral (g .1)) _ (Some end) _ _ (λ l d. refl))
   write-same (f ∷ g ∷ h ∷ []) =
-      step (f .0) (number (f .1)) _ _ _ _ (λ s e. step (g .0) (number (g .1)) _ _ _ _ (λ l d. rule-one (h .0) (network-of (h .1)) _ _ (h .0) (λ r. Ok (Write s l r))))
+      step (f .0) (numeral (f .1)) _ _ _ _ (λ s e. step (g .0) (numeral (g .1)) _ _ _ _ (λ l d. rule-one (h .0) (network-of (h .1)) _ _ (h .0) (λ r. Ok (Write s l r))))
   write-same (f ∷ g ∷ h ∷ i ∷ []) =
-      step (f .0) (number (f .1)) _ _ _ _ (λ s e. step (g .0) (number (g .1)) _ _ _ _ (λ l d. rule-two (h .0) (i .0) (network-of (h .1)) (action-of (i .1)) _ _ (h .0) _ (λ r. Ok (Write s l r))))
+      step (f .0) (numeral (f .1)) _ _ _ _ (λ s e. step (g .0) (numeral (g .1)) _ _ _ _ (λ l d. rule-two (h .0) (i .0) (network-of (h .1)) (action-of (i .1)) _ _ (h .0) _ (λ r. Ok (Write s l r))))
   write-same (f ∷ g ∷ h ∷ i ∷ j ∷ fs) =
-      step (f .0) (number (f .1)) _ _ _ _ (λ s e. step (g .0) (number (g .1)) _ _ _ _ (λ l d.
+      step (f .0) (numeral (f .1)) _ _ _ _ (λ s e. step (g .0) (numeral (g .1)) _ _ _ _ (λ l d.
       rule-by (h .0) (i .0) (j .0) (network-of (h .1)) (action-of (i .1)) (ports-of (j .1)) fs _ (h .0) (λ r. Ok (Write s l r))
       (λ n a x p q w. made (make (record { address = n .0; prefix = n .1; action = action-number a; first = x .0; last = x .1 })) (Write s l) (h .0)
       ∙ (λ k. okOr (andThen (sym e k) (λ s. andThen (sym d k) (λ l. andThen (andThen (sym p k) (λ n. andThen (sym q k) (λ a. mapped (λ x. record { address = n .0; prefix = n .1; action = action-number a; first = x .0; last = x .1 }) (sym w k)))) (λ parts. mapped (Write s l) (make parts))))) (NoRule (h .0))))))

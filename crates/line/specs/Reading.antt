@@ -66,12 +66,12 @@ kinds (of-change call) = a-number ∷ a-stamp ∷ []
 kinds (of-stamp call) = a-stamp ∷ []
 
 -- sessions, slots and numbers have 32 bits
-abbrev pub number : List ℕ → Option ℕ
-number f = number-of 4294967295 f
+abbrev pub numeral : List ℕ → Option ℕ
+numeral f = number-of 4294967295 f
 
 -- whether a field reads as what it should be; stamps are read as their kind reads them
 abbrev pub readable : {S : Type 0} → (List ℕ → Option S) → Kind → List ℕ → Bool
-readable reads a-number f = isSome (number f)
+readable reads a-number f = isSome (numeral f)
 readable reads a-stamp f = isSome (reads f)
 readable reads a-network f = isSome (network-of f)
 readable reads an-action f = isSome (action-of f)
@@ -93,12 +93,12 @@ bytes n fs = getD fs n (0, []) .1
 
 -- the call that readable fields make; there is none only where the parts of a rule make none
 abbrev pub call-in : {S : Type 0} → (List ℕ → Option S) → Form S → List (ℕ × List ℕ) → Option (Call S)
-call-in reads (of-session call) fs = mapped call (number (bytes 0 fs))
-call-in reads (of-numbers call) fs = andThen (number (bytes 0 fs)) (λ s. mapped (call s) (number (bytes 1 fs)))
+call-in reads (of-session call) fs = mapped call (numeral (bytes 0 fs))
+call-in reads (of-numbers call) fs = andThen (numeral (bytes 0 fs)) (λ s. mapped (call s) (numeral (bytes 1 fs)))
 call-in reads (of-rule call) fs =
-    andThen (number (bytes 0 fs)) (λ s. andThen (number (bytes 1 fs)) (λ n.
+    andThen (numeral (bytes 0 fs)) (λ s. andThen (numeral (bytes 1 fs)) (λ n.
     andThen (parts-in (bytes 2 fs ∷ bytes 3 fs ∷ bytes 4 fs ∷ [])) (λ p. mapped (call s n) (make p))))
-call-in reads (of-change call) fs = andThen (number (bytes 0 fs)) (λ s. mapped (call s) (reads (bytes 1 fs)))
+call-in reads (of-change call) fs = andThen (numeral (bytes 0 fs)) (λ s. mapped (call s) (reads (bytes 1 fs)))
 call-in reads (of-stamp call) fs = mapped call (reads (bytes 0 fs))
 
 -- a wrong field comes before a rule that is none, which is told at its first byte

@@ -17,7 +17,7 @@ use Rattle.rule.specs.Reading.{network-of, action-of, ports-of}
 use Rattle.protocol.specs.declared.Call.{Call}
 use Rattle.protocol.specs.declared.Call.the-variants.{Begin, Fetch, Read, Write, Drop, Forward, Commit, Abort, Learn, Receipt, Truncate}
 use Rattle.line.specs.Cutting.{rest-of}
-use Rattle.line.specs.Reading.{number, place}
+use Rattle.line.specs.Reading.{numeral, place}
 
 -- one step after another, up to the first refusal
 abbrev pub next : {X Y : Type 0} → Result X Refusal → (X → Result Y Refusal) → Result Y Refusal
@@ -53,14 +53,14 @@ rule-as end fs = next (parts-as end fs) (λ p. okOr (make p) (NoRule (place 0 fs
 
 abbrev pub write-as : {S : Type 0} → ℕ → List (ℕ × List ℕ) → Result (Call S) Refusal
 write-as end fs =
-    next (first-as number end fs) (λ s. next (first-as number end (rest-of fs)) (λ n.
+    next (first-as numeral end fs) (λ s. next (first-as numeral end (rest-of fs)) (λ n.
     next (rule-as end (rest-of (rest-of fs))) (λ r. Ok (Write s n r))))
 
 abbrev pub session-as : {S : Type 0} → (ℕ → Call S) → ℕ → List (ℕ × List ℕ) → Result (Call S) Refusal
-session-as call end fs = next (last-as number end fs) (λ s. Ok (call s))
+session-as call end fs = next (last-as numeral end fs) (λ s. Ok (call s))
 
 abbrev pub numbers-as : {S : Type 0} → (ℕ → ℕ → Call S) → ℕ → List (ℕ × List ℕ) → Result (Call S) Refusal
-numbers-as call end fs = next (two-as number number end fs) (λ p. Ok (call (p .0) (p .1)))
+numbers-as call end fs = next (two-as numeral numeral end fs) (λ p. Ok (call (p .0) (p .1)))
 
 -- by the letter
 abbrev pub by-letter : {S : Type 0} → (List ℕ → Option S) → ℕ → ℕ → List (ℕ × List ℕ) → Result (Call S) Refusal
@@ -70,7 +70,7 @@ by-letter reads end b fs =
     (cond (eqb b 114) (numbers-as Read end fs)
     (cond (eqb b 119) (write-as end fs)
     (cond (eqb b 100) (numbers-as Drop end fs)
-    (cond (eqb b 112) (next (two-as number reads end fs) (λ p. Ok (Forward (p .0) (p .1))))
+    (cond (eqb b 112) (next (two-as numeral reads end fs) (λ p. Ok (Forward (p .0) (p .1))))
     (cond (eqb b 99) (session-as Commit end fs)
     (cond (eqb b 97) (session-as Abort end fs)
     (cond (eqb b 108) (session-as Learn end fs)

@@ -4,8 +4,6 @@
 // or which refusal it is. Each call has one text, and that text, and no other, reads as the call.
 mod cutting;
 mod reading;
-#[cfg(test)]
-mod tests;
 mod texts;
 
 pub use cutting::Field;

@@ -5,7 +5,7 @@ ghost use Rattle.std.specs.declared.result.Result.the-variants.{Ok};
 ghost use Rattle.protocol.specs.declared.Call.{Call};
 ghost use Rattle.protocol.specs.Texts.{call-text, Fits};
 ghost use Rattle.line.specs.Cutting.{parts};
-ghost use Rattle.line.specs.Reading.{number, call-of};
+ghost use Rattle.line.specs.Reading.{numeral, call-of};
 ghost use Rattle.line.specs.Steps.{first-as, no-more, last-as, two-as, parts-as, rule-as, write-as, by-letter, letter-of, fields-as};
 use crate::cutting::LONGEST;
 use crate::cutting::Line;
@@ -23,7 +23,7 @@ use text::number;
 
 // The number in the first field that is left.
 fn number_in(line: Line, end: u32) -> Result<u32, Refusal>
-    ensures { λ r. ⌜ r ≡ first-as number end (parts (line .entry)) ⌝ }
+    ensures { λ r. ⌜ r ≡ first-as numeral end (parts (line .entry)) ⌝ }
 {
     let Some(field) = line.first() else {
         return Err(Refusal::Unreadable { at: end });
@@ -58,7 +58,7 @@ fn no_more(line: Line) -> Result<(), Refusal>
 
 // The number in the last field.
 fn last_number_in(line: Line, end: u32) -> Result<u32, Refusal>
-    ensures { λ r. ⌜ r ≡ last-as number end (parts (line .entry)) ⌝ }
+    ensures { λ r. ⌜ r ≡ last-as numeral end (parts (line .entry)) ⌝ }
 {
     let number = number_in(line, end)?;
     no_more(line.rest())?;
@@ -66,7 +66,7 @@ fn last_number_in(line: Line, end: u32) -> Result<u32, Refusal>
 }
 
 fn two_numbers_in(line: Line, end: u32) -> Result<(u32, u32), Refusal>
-    ensures { λ r. ⌜ r ≡ two-as number number end (parts (line .entry)) ⌝ }
+    ensures { λ r. ⌜ r ≡ two-as numeral numeral end (parts (line .entry)) ⌝ }
 {
     let first = number_in(line, end)?;
     let second = last_number_in(line.rest(), end)?;
@@ -82,7 +82,7 @@ fn last_stamp_in<S: Stamp>(line: Line, end: u32) -> Result<S, Refusal>
 }
 
 fn change_in<S: Stamp>(line: Line, end: u32) -> Result<(u32, S), Refusal>
-    ensures { λ r. ⌜ r ≡ two-as number (S·Stamp .reads) end (parts (line .entry)) ⌝ }
+    ensures { λ r. ⌜ r ≡ two-as numeral (S·Stamp .reads) end (parts (line .entry)) ⌝ }
 {
     let session = number_in(line, end)?;
     let stamp = last_stamp_in::<S>(line.rest(), end)?;

@@ -11,42 +11,30 @@ use stamp::Stamp;
 use std::alloc::AllocError;
 use std::alloc::Global;
 
-// Every number of a call has 32 bits: each case tells it of its own.
-fn fits_call<S: Stamp>(call: Call<S>)
+// The numbers of a call have 32 bits, which a proof knows of each case alone.
+fn numbers_fit<S: Stamp>(call: Call<S>)
     ensures { λ _. ⌜ Fits call ⌝ }
 {
     match call {
-        Call::Begin { session: _ } => {}
-        Call::Fetch {
-            session: _,
-            slot: _,
-        } => {}
-        Call::Read {
-            session: _,
-            slot: _,
-        } => {}
-        Call::Write {
-            session: _,
-            slot: _,
-            rule: _,
-        } => {}
-        Call::Drop {
-            session: _,
-            slot: _,
-        } => {}
-        Call::Forward {
-            session: _,
-            stamp: _,
-        } => {}
-        Call::Commit { session: _ } => {}
-        Call::Abort { session: _ } => {}
-        Call::Learn { session: _ } => {}
-        Call::Receipt {
-            session: _,
-            number: _,
-        } => {}
-        Call::Truncate { stamp: _ } => {}
+        Call::Begin { .. } => {}
+        Call::Fetch { .. } => {}
+        Call::Read { .. } => {}
+        Call::Write { .. } => {}
+        Call::Drop { .. } => {}
+        Call::Forward { .. } => {}
+        Call::Commit { .. } => {}
+        Call::Abort { .. } => {}
+        Call::Learn { .. } => {}
+        Call::Receipt { .. } => {}
+        Call::Truncate { .. } => {}
     }
+}
+
+// The text of a call reads as that call.
+fn text_reads_back<S: Stamp>(call: Call<S>)
+    ensures { λ _. ⌜ call-of (S·Stamp .reads) (call-text (S·Stamp .text) call) ≡ Ok call ⌝ }
+{
+    numbers_fit(call)
 }
 
 // What `{}` writes of a call: a line that reads as the call.
@@ -54,6 +42,6 @@ pub fn call_text<S: Stamp>(heap: Global, call: Call<S>) -> Result<String, AllocE
     ensures text { λ r. ⌜ made r (λ t. string-bytes t ≡ call-text (S·Stamp .text) call) ⌝ }
     ensures reads_back { λ r. ⌜ made r (λ t. call-of (S·Stamp .reads) (string-bytes t) ≡ Ok call) ⌝ }
 {
-    fits_call(call);
+    text_reads_back(call);
     call.to_string(heap)
 }

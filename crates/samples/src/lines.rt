@@ -1,6 +1,6 @@
 // Lines of every call, and lines that are none.
-use crate::call_text;
-use crate::read_call;
+use line::call_text;
+use line::read_call;
 use protocol::Call;
 use refusal::Refusal;
 use refusal::RefusalDebug;
