@@ -80,12 +80,11 @@ assert open("one.img", "rb").read() == image(1, [(0, b"192.0.2.0/24 block 0-6553
 PY
 
 # wrong words on the command line
-refused_with 'rulebook: no such command, or not its words; see rulebook help' frob
+refused_with 'rulebook: no such command, or not its words; see rulebook help' task now
 refused_with 'rulebook: no such command, or not its words; see rulebook help' show
 refused_with 'rulebook: no such command, or not its words; see rulebook help' show a.img b.img
 refused_with 'rulebook: no such command, or not its words; see rulebook help' help me
 refused_with 'rulebook: no such command, or not its words; see rulebook help' set a.img 3 192.0.2.0/24 block
-refused_with 'rulebook: no such command, or not its words; see rulebook help' ''
 refused_with 'rulebook: SLOTS is a decimal number; see rulebook help' format c.img four
 refused_with 'rulebook: SLOTS is a decimal number; see rulebook help' format c.img 04
 refused_with 'rulebook: SLOT is a decimal number; see rulebook help' set a.img -1 192.0.2.0/24 block 0-65535
@@ -139,6 +138,40 @@ poke bad.img 600 001
 refused_with 'rulebook: refused 17 1 1: the check of a block differs' check bad.img
 done_with 'bad.img: 2 open rules' format bad.img 2
 done_with 'bad.img: 2 slots, no damage' check bad.img
+
+# the task in memory
+done_with "$(cat "$root/tests/task.stdout")" task
+
+# scripts that are done
+printf 'b 0\nf 0 3\nr 0 3\nw 0 3 10.0.0.0/8 block 0-9\np 0 7\nc 0\n' >script
+done_with '1 0
+2 0 0.0.0.0/0 allow 0-65535
+3 0 0.0.0.0/0 allow 0-65535
+4 0
+5 0 0
+6 0 1' --slots 4 --stamps ticket script
+done_with 'p.img: 4 open rules' format p.img 4
+done_with '1 0
+2 0 0.0.0.0/0 allow 0-65535
+3 0 0.0.0.0/0 allow 0-65535
+4 0
+5 0 0
+6 0 1' --image p.img --stamps ticket script
+done_with "0 $open
+1 $open
+2 $open
+3 10.0.0.0/8 block 0-9" show p.img
+refused_with "rulebook: refused 1 2 0: $size" --slots 0 script
+refused_with "rulebook: refused 1 2 0: $size" --slots 65 script
+refused_with "rulebook: refused 1 2 0: $size" --slots 4294967295 script
+refused_with 'rulebook: SLOTS is a decimal number; see rulebook help' --slots four script
+refused_with 'rulebook: cannot read gone.img: No such file or directory (os error 2)' --image gone.img script
+refused_with 'rulebook: the stamps are clock or ticket; see rulebook help' --stamps sundial script
+refused_with 'rulebook: no such command, or not its words; see rulebook help' --stamps ticket script script
+refused_with 'rulebook: cannot read gone.txt: No such file or directory (os error 2)' gone.txt
+cp a.img bad.img
+poke bad.img 100 001
+refused_with 'rulebook: refused 17 1 0: the check of a block differs' --image bad.img script
 
 # lines that are only read
 printf 'w 0 3 192.0.2.0/24 block 0-65535\np 0 7.1\nz\n' >script

@@ -22,8 +22,16 @@ pub(crate) enum Kind {
     Ticket,
 }
 
+// Where the rules of a book lie.
+#[derive(Clone, Copy)]
+pub(crate) enum Place<'a> {
+    Table(u32),
+    Image(&'a str),
+}
+
 #[derive(Drop)]
 pub(crate) enum Command<'a> {
+    Play { place: Place<'a>, stamps: Kind, script: Option<&'a str> },
     Task,
     Help,
     Format { file: &'a str, slots: u32 },
@@ -49,29 +57,53 @@ fn kind_of(word: &str) -> Result<Kind, Failure> {
     }
 }
 
-// The words behind `lint`.
-fn lint(words: &[String]) -> Result<Command<'_>, Failure> {
+// A script, if one is named.
+fn script_of(words: &[String]) -> Result<Option<&str>, Failure> {
     match words {
-        [] => Ok(Command::Lint { stamps: Kind::Clock, script: None }),
-        [script] => Ok(Command::Lint { stamps: Kind::Clock, script: Some(script.as_str()) }),
-        [option, stamps, rest @ ..] if option.as_str() == "--stamps" => {
-            let stamps = kind_of(stamps.as_str())?;
-            match rest {
-                [] => Ok(Command::Lint { stamps, script: None }),
-                [script] => Ok(Command::Lint { stamps, script: Some(script.as_str()) }),
-                _ => Err(Failure::Usage(Usage::Command)),
-            }
-        }
+        [] => Ok(None),
+        [script] => Ok(Some(script.as_str())),
         _ => Err(Failure::Usage(Usage::Command)),
     }
 }
 
+// The kind of stamp, if one is named, and the words behind it.
+fn stamps_of(words: &[String]) -> Result<(Kind, &[String]), Failure> {
+    match words {
+        [option, kind, rest @ ..] if option.as_str() == "--stamps" => Ok((kind_of(kind.as_str())?, rest)),
+        _ => Ok((Kind::Clock, words)),
+    }
+}
+
+// Where the rules lie, and the words behind it.
+fn place_of(words: &[String]) -> Result<(Place<'_>, &[String]), Failure> {
+    match words {
+        [option, slots, rest @ ..] if option.as_str() == "--slots" => Ok((Place::Table(number(slots.as_str(), Usage::Slots)?), rest)),
+        [option, file, rest @ ..] if option.as_str() == "--image" => Ok((Place::Image(file.as_str()), rest)),
+        _ => Ok((Place::Table(4), words)),
+    }
+}
+
+fn lint(words: &[String]) -> Result<Command<'_>, Failure> {
+    let (stamps, rest) = stamps_of(words)?;
+    let script = script_of(rest)?;
+    Ok(Command::Lint { stamps, script })
+}
+
+// A script of calls, with its options.
+fn play(words: &[String]) -> Result<Command<'_>, Failure> {
+    let (place, rest) = place_of(words)?;
+    let (stamps, rest) = stamps_of(rest)?;
+    let script = script_of(rest)?;
+    Ok(Command::Play { place, stamps, script })
+}
+
 pub(crate) fn read(words: &[String]) -> Result<Command<'_>, Failure> {
     let [first, rest @ ..] = words else {
-        return Ok(Command::Task);
+        return play(words);
     };
     match (first.as_str(), rest) {
-        ("lint", words) => lint(words),
+        ("lint", rest) => lint(rest),
+        ("task", []) => Ok(Command::Task),
         ("help", []) => Ok(Command::Help),
         ("format", [file, slots]) => Ok(Command::Format { file: file.as_str(), slots: number(slots.as_str(), Usage::Slots)? }),
         ("set", [file, slot, network, action, ports]) => Ok(Command::Set {
@@ -83,7 +115,8 @@ pub(crate) fn read(words: &[String]) -> Result<Command<'_>, Failure> {
         }),
         ("show", [file]) => Ok(Command::Show { file: file.as_str() }),
         ("check", [file]) => Ok(Command::Check { file: file.as_str() }),
-        _ => Err(Failure::Usage(Usage::Command)),
+        ("format" | "set" | "show" | "check" | "task" | "help", _) => Err(Failure::Usage(Usage::Command)),
+        _ => play(words),
     }
 }
 

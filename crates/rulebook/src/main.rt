@@ -5,6 +5,7 @@ mod commands;
 mod failure;
 mod files;
 mod lint;
+mod play;
 mod task;
 
 use commands::Command;
@@ -15,20 +16,24 @@ use crate::failure::FailureFromAlloc;
 use crate::failure::FailureFromIo;
 
 const HELP: &str = "\
-rulebook                                 format, write, read and damage a store in memory, and say what happens
+rulebook [--slots N | --image FILE] [--stamps KIND] [SCRIPT]
+                                         do the calls of a script, and answer each line
+rulebook lint [--stamps KIND] [SCRIPT]   for each line of a script its number and 0, or why it is no call
 rulebook format FILE SLOTS               a new image of SLOTS open rules (1 to 64)
 rulebook set FILE SLOT RULE              put a rule into a slot
 rulebook show FILE                       the rule of every slot
 rulebook check FILE                      whether the image is whole
-rulebook lint [--stamps KIND] [SCRIPT]   for each line of a script its number and 0, or why it is no call
+rulebook task                            format, write, read and damage a store in memory, and say what happens
 rulebook help                            this text
-KIND is clock or ticket, and clock if it is left out. Without SCRIPT, standard input is read.
+Without SCRIPT, standard input is read. Without --slots and --image, the rules are a table of 4 open rules in memory.
+With --image, the file is replaced after each commit that wrote, before its answer. KIND is clock, or ticket.
 A RULE is three words, ADDRESS/PREFIX ACTION FIRST-LAST, as in 192.0.2.0/24 block 0-65535.
 ";
 
 fn run(rt: &LibcRuntime) -> Result<(), Failure> {
     let words: Vec<String> = env::args(rt)?.skip(1).collect(rt.alloc())?;
     match commands::read(words.as_slice())? {
+        Command::Play { place, stamps, script } => play::run(rt, place, stamps, script),
         Command::Task => task::run(rt),
         Command::Help => {
             rt.print(HELP)?;

@@ -1,0 +1,2 @@
+mod Commits
+pub mod Reaching
