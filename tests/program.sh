@@ -173,6 +173,9 @@ cp a.img bad.img
 poke bad.img 100 001
 refused_with 'rulebook: refused 17 1 0: the check of a block differs' --image bad.img script
 
+# the story of the tills that moved, with the answers of the reference
+done_with "$(cat "$root/examples/tills.answers")" "$root/examples/tills.script"
+
 # lines that are only read
 printf 'w 0 3 192.0.2.0/24 block 0-65535\np 0 7.1\nz\n' >script
 done_with '1 0
