@@ -1,13 +1,21 @@
 -- Worked histories of a small book, by the definitions of the calls. Assumes nothing.
-use mathlib.Core.Path.{refl}
+use mathlib.Core.Path.{_≡_, refl}
 use mathlib.Core.Bool.{true, false}
 use mathlib.Core.List.{List, [], _∷_, _++_}
 use Prim.Native.Nat.{ℕ, zero, suc}
+use lib.Chars.{codes}
 use lib.Dec.{eqb}
-use Rattle.refusal.specs.declared.Refusal.the-variants.{StampTooEarly, StampTaken, QueueFull, LaterConflict, PendingConflict, Stale}
+use Rattle.std.specs.Options.{mapped}
+use Rattle.std.specs.Results.{okPart}
+use Rattle.std.specs.declared.option.Option.the-variants.{Some}
+use Rattle.std.specs.declared.result.Result.the-variants.{Err}
+use Rattle.text.specs.Octets.{octet-of}
+use Rattle.refusal.specs.declared.Refusal.the-variants.{StampTooEarly, StampTaken, QueueFull, LaterConflict, PendingConflict, Stale, NoRule, Unreadable}
 use Rattle.rule.specs.declared.Parts.{Parts}
 use Rattle.rule.specs.declared.Rule.{Rule}
-use Rattle.rule.specs.Making.{rule-with, facts, open-rule}
+use Rattle.rule.specs.Making.{rule-with, facts, open-rule, parts-of}
+use Rattle.rule.specs.Reading.{read-rule}
+use Rattle.block.specs.Layout.{word, laid-out}
 use Rattle.store.specs.declared.Entry.{Entry}
 use Rattle.store.specs.declared.Entry.the-variants.{Intact}
 use Rattle.calls.specs.State.{just-made}
@@ -107,6 +115,14 @@ tills-moved =
     ∷ (begin 1 gives done) ∷ (fetch 1 0 gives rule new-tills) ∷ (read 1 0 gives rule new-tills) ∷ (read 1 1 gives rule open-rule)
     ∷ (write 1 1 new-block gives done) ∷ (forward 1 (at 806 1) gives place 1) ∷ (commit 1 gives number 2) ∷ []
 
+-- the rest of a rule's text behind its network
+abbrev pub rule-text : List ℕ → List ℕ
+rule-text network = network ++ codes " allow 0-65535"
+
+-- the parts of 10.0.0.0/8 allow 0-65535
+abbrev pub ten-parts : Parts
+ten-parts = record { address = 167772160; prefix = 8; action = 0; first = 0; last = 65535 }
+
 -- all of them
 pub record Worked : Type 0 where
   pub empty-change : Plays an-empty-change
@@ -120,3 +136,13 @@ pub record Worked : Type 0 where
   pub receipt-of-an-older-notice : Plays a-receipt-of-an-older-notice
   pub full-queue : PlaysAfter (empty-changes 32) a-full-queue
   pub tills-that-moved : PlaysFrom (just-made shop) tills-moved
+  -- 192.0.2.0/24 block 0-65535 in a block of one slot has the check 0x25FD
+  pub check-of-one-slot : word (laid-out 0 (block-rule ∷ [])) 0 ≡ 0x25FD
+  -- 0 and 255 are octets; a text with 00, 010 or 256 is unreadable
+  pub octets-that-read : (octet-of (codes "0") ≡ Some 0) × (octet-of (codes "255") ≡ Some 255)
+  pub octets-that-do-not : (read-rule (rule-text (codes "00.0.0.0/0")) ≡ Err (Unreadable 0))
+      × (read-rule (rule-text (codes "010.0.0.0/0")) ≡ Err (Unreadable 0)) × (read-rule (rule-text (codes "256.0.0.0/0")) ≡ Err (Unreadable 0))
+  -- 10.0.0.0/8 is a rule; with a bit behind the prefix, or a prefix of 33, there is none
+  pub address-on-its-prefix : mapped parts-of (okPart (read-rule (rule-text (codes "10.0.0.0/8")))) ≡ Some ten-parts
+  pub address-off-its-prefix : read-rule (rule-text (codes "10.0.0.1/8")) ≡ Err (NoRule 0)
+  pub prefix-too-long : read-rule (rule-text (codes "0.0.0.0/33")) ≡ Err (NoRule 0)

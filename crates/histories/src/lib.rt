@@ -4,7 +4,8 @@
 ghost use Rattle.histories.specs.Worked.{Worked};
 ghost use Rattle.histories.specs.Broken.{Broken};
 
-// What a small book answers in ten histories: nine on four open rules, and the tills that moved.
+// What a small book answers in ten histories: nine on four open rules, and the tills that moved. Then the check of a worked block, and
+// texts at the edge of what reads as a rule.
 pub fn worked_histories_stand() -> u8
     ensures { λ _. ⌜ Worked ⌝ }
 {
