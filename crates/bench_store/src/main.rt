@@ -1,4 +1,4 @@
-// Gets and puts on a block store of 64 slots, so that bench/run can hold their cost to that of plain Rust.
+// Gets and puts on a block store of 64 slots, so that bench/store can hold their cost to that of plain Rust.
 //
 // bench_store gets ROUNDS, bench_store puts ROUNDS
 use block::memory::format;
