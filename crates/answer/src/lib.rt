@@ -1,6 +1,8 @@
 // The text of an answer: what the program writes for each line that it reads.
 //
 // `specs/Texts.antt` sets out the text of every answer: the line's number, the result, and then the value, or layer and place.
+#![tactic(auto)]
+
 mod slot_list;
 
 ghost use Rattle.std.specs.Prelude.{◌++◌, codes, decimal};

@@ -1,6 +1,8 @@
 // Gets and puts on a block store of 64 slots, so that bench/store can hold their cost to that of plain Rust.
 //
 // bench_store gets ROUNDS, bench_store puts ROUNDS
+#![tactic(auto)]
+
 use anyhow::anyhow;
 use block::memory::format;
 use block::store::{BlockStore, memory_size};

@@ -3,6 +3,8 @@
 // A block has a check over all its other bytes, a head and up to 32 records, each with one rule.
 // What is wrong with a block is found before a rule is read from it or written to it.
 // What is written reads back, and a write changes its record and the check and nothing else.
+#![tactic(auto)]
+
 mod damage;
 mod formatting;
 pub mod memory;

@@ -2,6 +2,8 @@
 //
 // Each call answers, and leaves behind, what its definition says, for every argument. A call that is refused changes nothing.
 // All memory is taken when a book is made.
+#![tactic(auto)]
+
 mod applying;
 mod causes;
 mod committing;

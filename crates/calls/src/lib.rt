@@ -2,6 +2,8 @@
 //
 // `specs/` says what a book keeps, what each call checks, does and answers, and how a history of calls with their answers
 // is read by the law. Here is no running code: the functions below name the theorems, so that none can go missing.
+#![tactic(auto)]
+
 ghost use Rattle.calls.specs.Histories.{LawOfRuns, LawOfReached, CommitsOfReached, RoomOfReached, OrdersOfReached};
 
 // From a book just made over any list of entries, every list of calls, answered as defined, keeps the law.

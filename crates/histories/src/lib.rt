@@ -1,6 +1,8 @@
 // Worked histories of a small rule book, and histories of faulty books that the law shuts out.
 //
 // Both groups are computed: what each call is answered, and that the law does not hold.
+#![tactic(auto)]
+
 ghost use Rattle.histories.specs.Worked.{Worked};
 ghost use Rattle.histories.specs.Broken.{Broken};
 

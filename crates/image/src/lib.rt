@@ -2,6 +2,8 @@
 //
 // An image tells its own count, by its size and by byte 3 of its last block. It is opened only if that count can be told
 // and no block is damaged.
+#![tactic(auto)]
+
 ghost use Rattle.std.specs.Prelude.{◌≡◌, length, IfOk, Ok, Err, MatchResult};
 ghost use Rattle.block.specs.Memory.{block_entries};
 ghost use Rattle.image.specs.Image.{image_count, image_check};

@@ -2,6 +2,8 @@
 //
 // With the entries of a store it makes the state of the definitions of the calls. For each call whose checks look at nothing else, a
 // function here gives the cause of the first check that turns it away.
+#![tactic(auto)]
+
 mod causes;
 mod clashes;
 mod making;

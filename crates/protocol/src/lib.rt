@@ -1,6 +1,8 @@
 // The eleven calls of the book and its answers, as values.
 //
 // A call names its session, and what it asks of it; only a truncation has no session. An answer is a value, or the refusal.
+#![tactic(auto)]
+
 mod texts;
 
 use refusal::Refusal;

@@ -2,6 +2,8 @@
 //
 // It has room for 32 from the start and never takes more memory. What it means is a list of entries of the definitions of the calls,
 // and each method answers, or does to it, what its definition says.
+#![tactic(auto)]
+
 mod checks;
 mod edits;
 mod entry;

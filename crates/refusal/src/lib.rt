@@ -2,6 +2,8 @@
 //
 // The number, layer and place of every cause are those of the one table in `specs/Table.antt`.
 // A refusal is written as these three numbers, and `meaning` tells its cause in words.
+#![tactic(auto)]
+
 mod texts;
 
 ghost use Rattle.std.specs.Prelude.{◌≡◌};

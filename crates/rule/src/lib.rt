@@ -2,6 +2,8 @@
 //
 // What is no rule cannot be had as a `Rule`: the conditions are invariants of the type.
 // Each rule has one text, and that text, and no other, reads as the rule.
+#![tactic(auto)]
+
 mod making;
 mod reading;
 #[cfg(test)]

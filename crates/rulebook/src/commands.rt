@@ -160,7 +160,7 @@ pub(crate) fn rule(
     action: &str,
     ports: &str,
 ) -> Result<Rule, Failure> {
-    let text = format!(rt.alloc(), "{network} {action} {ports}")?;
+    let text = format!(in rt.alloc(); "{network} {action} {ports}")?;
     Ok(Rule::read(text.as_bytes())?)
 }
 

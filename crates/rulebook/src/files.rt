@@ -38,7 +38,7 @@ fn sync_folder(rt: &HostRuntime, file: &str) -> io::Result<()> {
 }
 
 fn replace(rt: &HostRuntime, file: &str, bytes: &[u8]) -> io::Result<()> {
-    let new = format!(rt.alloc(), "{file}.new")?;
+    let new = format!(in rt.alloc(); "{file}.new")?;
     if let Err(error) = write_and_rename(rt, file, new.as_str(), bytes) {
         let _ = fs::remove_file(rt, new.as_str());
         return Err(error);

@@ -1,6 +1,8 @@
 // The program `rulebook`: does the calls of a script on a rule book, line by line, and keeps its rules in an image file.
 //
 // It is thin: how a line is read, done and answered, and what an image means, comes from the proved libraries below it.
+#![tactic(auto)]
+
 mod commands;
 mod failure;
 mod files;
@@ -11,7 +13,8 @@ mod task;
 
 use commands::Command;
 use failure::Failure;
-use std::env;
+use std::process::ExitCode;
+use std::{env, io};
 
 const HELP: &str = "\
 rulebook [--slots N | --image FILE] [--stamps KIND] [SCRIPT]
@@ -55,10 +58,12 @@ fn run(rt: &HostRuntime) -> Result<(), Failure> {
     }
 }
 
-fn main(rt: HostRuntime) -> Result<(), Failure> {
-    let result = run(&rt);
-    if let Err(failure) = &result {
-        eprintln!(rt; "rulebook: {failure}")?;
+fn main(rt: HostRuntime) -> io::Result<ExitCode> {
+    match run(&rt) {
+        Ok(()) => Ok(ExitCode::SUCCESS),
+        Err(failure) => {
+            eprintln!(rt; "rulebook: {failure}")?;
+            Ok(ExitCode::FAILURE)
+        }
     }
-    result
 }

@@ -2,6 +2,8 @@
 //
 // The answers, and what the book holds in the end, are those of the definitions of the calls, one call after another. The law of the book
 // holds of the calls with their answers, from the first entries of the store to the last.
+#![tactic(auto)]
+
 ghost use Rattle.std.specs.Prelude.{◌≡◌, [], map, length, IfOk, vec_len};
 ghost use Rattle.calls.specs.State.{just_made};
 ghost use Rattle.calls.specs.Histories.{Reached, history, final, LawOf};

@@ -2,6 +2,8 @@
 //
 // Every list of bytes gets an answer. A line that is no call is refused and leaves the book as it was; one that is a call is done, with the answer and the
 // effect of its definition. The law of the book holds after each line.
+#![tactic(auto)]
+
 ghost use Rattle.std.specs.Prelude.{◌≡◌, List, Err};
 ghost use Rattle.refusal.specs.declared.Refusal.{Refusal};
 ghost use Rattle.store.specs.declared.Entry.{Entry};

@@ -1,6 +1,8 @@
 // The record of a session, and the table of the eight.
 //
 // What a record means is a session of the definitions of the calls, and each method does to it what its definition says.
+#![tactic(auto)]
+
 mod asking;
 mod table;
 

@@ -1,7 +1,7 @@
 -- What holds of every slot set. Assumes nothing.
 use Rattle.std.proofs.Common.{◌≡◌, ℕ, ◌+◌, ◌<◌, ◌≤◌, Bool, true, false, cond, not, ◌&&◌, Decides, sym, refl, ap, ◌∙◌, ⊎_elim, add-zero, arith}
 use mathlib.Core.Path.{fun_ext}
-use mathlib.Core.Bool.{and_true}
+use mathlib.Core.Bool.{and-true}
 use Rattle.std.proofs.lemmas.Bool.{le-ltb, ltb-true, and_left, and_right, and_parts, both_ways, cases_lt, cases_eq, cases_Bool}
 use Rattle.slots.specs.declared.SlotSet.{SlotSet}
 use Rattle.slots.specs.Sets.{none, alone, both, removed, any, tally, meet}
@@ -30,7 +30,7 @@ meet_alone s x = ⊎_elim inside outside (cases_lt x 64)
     other y ne = both_at (has s) (alone x) y ∙ and_right (has s y) _ (alone_other x y ne)
 
     here : x < 64 → both (has s) (alone x) x ≡ has s x
-    here l = both_at (has s) (alone x) x ∙ ap (λ b. has s x && b) (alone_same x l) ∙ and_true (has s x)
+    here l = both_at (has s) (alone x) x ∙ ap (λ b. has s x && b) (alone_same x l) ∙ and-true (has s x)
 
     inside : x < 64 → meet (has s) (alone x) ≡ has s x
     inside l = ⊎_elim

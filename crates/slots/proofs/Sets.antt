@@ -1,7 +1,7 @@
 -- Laws of sets of slots, for every bound. Assumes nothing.
 use Rattle.std.proofs.Common.{◌≡◌, ℕ, zero, suc, ◌+◌, ◌<◌, ◌≤◌, Bool, true, false, cond, not, ◌&&◌, ◌||◌, eqb, ltb, ◌⊎◌, Some, None, Decides, Option, sym, refl, ap, ◌∙◌, ap₂, inl, inr, ⊎_elim, add-one, arith}
 use mathlib.Core.Path.{fun_ext}
-use mathlib.Core.Bool.{and_comm, and_true, or-false}
+use mathlib.Core.Bool.{and_comm, and-true, or-false}
 use Rattle.std.proofs.lemmas.Bool.{both_ways, eq-eqb, ne_eqb, lt-ltb, le-ltb, and_parts, and_from, and_left, and_right, or_left, or_right, or_cases, or_from, not_from_true, cases_lt, cases_eq, cases_Bool}
 use Rattle.slots.specs.Sets.{none, alone, either, both, without, inserted, removed, any_below, tally_below, or_else, least_below, any, tally, least, meet, Lowest, Meeting}
 
@@ -60,11 +60,11 @@ pub removed_same : (f : ℕ → Bool) (x : ℕ) → x < 64 → removed f x x ≡
 removed_same f x h = without_at f (alone x) x ∙ and_right (f x) _ (not_from_true _ (alone_same x h))
 
 pub removed_other : (f : ℕ → Bool) (x y : ℕ) → (y ≡ x → ⊥) → removed f x y ≡ f y
-removed_other f x y ne = without_at f (alone x) y ∙ ap (λ b. f y && not b) (alone_other x y ne) ∙ and_true (f y)
+removed_other f x y ne = without_at f (alone x) y ∙ ap (λ b. f y && not b) (alone_other x y ne) ∙ and-true (f y)
 
 -- what is no slot is not removed
 pub removed_outside : (f : ℕ → Bool) (x : ℕ) → 64 ≤ x → removed f x ≡ f
-removed_outside f x h = fun_ext (λ y. without_at f (alone x) y ∙ ap (λ b. f y && not b) (ap (λ g. g y) (alone_outside x h) ∙ none_at y) ∙ and_true (f y))
+removed_outside f x h = fun_ext (λ y. without_at f (alone x) y ∙ ap (λ b. f y && not b) (ap (λ g. g y) (alone_outside x h) ∙ none_at y) ∙ and-true (f y))
 
 pub removed_at : (f : ℕ → Bool) (x y : ℕ) → removed f x y ≡ (f y && not (eqb y x && ltb x 64))
 removed_at f x y = without_at f (alone x) y ∙ ap (λ b. f y && not b) (alone_at x y)

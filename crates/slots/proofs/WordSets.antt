@@ -1,7 +1,7 @@
 -- The word of a slot set against what the set means. Assumes nothing.
 use Rattle.std.proofs.Common.{◌≡◌, ℕ, ◌+◌, ◌-◌, ◌*◌, ◌%◌, ◌^◌, ◌<◌, ◌≤◌, Bool, false, cond, not, ◌&&◌, ◌||◌, eqb, Some, Decides, sym, refl, ap, ◌∙◌, ap₂, ⊎_elim, arith}
 use mathlib.Core.Path.{fun_ext}
-use mathlib.Core.Bool.{and_true}
+use mathlib.Core.Bool.{and-true}
 use lib.Bits.{bit_and, bit_or}
 use lib.Count.{ones, count_trailing_zeros}
 use Rattle.std.proofs.lemmas.Nat.{one_shl}
@@ -30,7 +30,7 @@ pub has_alone : (s : SlotSet) (x : ℕ) → x < 64 → s.bits ≡ (1 * 2 ^ x) % 
 has_alone s x h e =
     let one : s.bits ≡ 2 ^ x = e ∙ one_shl x 64 h in
     has_from s (alone x)
-    (λ y l. ap (λ w. bit w y) one ∙ bit_one x y ∙ sym (alone_at x y ∙ ap (λ b. eqb y x && b) (lt-ltb x 64 h) ∙ and_true (eqb y x)))
+    (λ y l. ap (λ w. bit w y) one ∙ bit_one x y ∙ sym (alone_at x y ∙ ap (λ b. eqb y x && b) (lt-ltb x 64 h) ∙ and-true (eqb y x)))
     (λ y l. alone_other x y (λ same. omega arith))
 
 pub has_either : (a b : SlotSet) → has (record { bits = bit_or a.bits b.bits }) ≡ either (has a) (has b)

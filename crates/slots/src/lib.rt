@@ -2,6 +2,8 @@
 //
 // A set means a function that tells of every number whether it is in the set, and every call is said in terms of that function.
 // No call is refused: a number of 64 or more is no slot, is in no set, and is neither inserted nor removed.
+#![tactic(auto)]
+
 ghost use Rattle.std.specs.Prelude.{◌≡◌, ◌+◌, ◌≤◌, false, not, if◌then◌else◌, Decides, MatchOption, nat_eq};
 ghost use Rattle.std.specs.Ordering.{on};
 ghost use Rattle.slots.specs.declared.SlotSet.{SlotSet};

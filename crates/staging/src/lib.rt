@@ -1,6 +1,8 @@
 // What a commit does to its store: every slot written is tried, and then every staged rule is put.
 //
 // So a commit is refused before anything is put, or it is done whole.
+#![tactic(auto)]
+
 ghost use Rattle.std.specs.Prelude.{◌≡◌, length};
 ghost use Rattle.session.specs.Views as seen;
 ghost use Rattle.calls.specs.Checks.{refused_get};

@@ -2,6 +2,8 @@
 //
 // A kind of stamp gives each of its stamps a key of two numbers, and no two stamps the same key. Keys are in a strict order
 // in which of two different keys one is before the other, so stamps are.
+#![tactic(auto)]
+
 mod clock;
 mod ticket;
 

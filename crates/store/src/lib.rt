@@ -2,6 +2,8 @@
 //
 // A store means a list of at most 64 entries, each a rule or a damage. One contract for `count`, `get` and `put`
 // holds of every store, for every slot and every rule, whether the slot is in the list or not.
+#![tactic(auto)]
+
 pub mod table;
 
 ghost use Rattle.std.specs.Prelude.{◌≡◌, ◌≤◌, List, length};

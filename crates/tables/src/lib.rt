@@ -3,6 +3,8 @@
 // A table means a function that gives of every number the value for it, if there is one, and every call is said in terms of that function.
 // A number of 64 or more is no slot: it has no value, and is neither put nor removed.
 // Beside it, what is asked of sets of slots below a count.
+#![tactic(auto)]
+
 mod sets;
 
 ghost use Rattle.std.specs.Prelude.{◌≡◌, Some, None};

@@ -2,6 +2,8 @@
 //
 // A number has one text, in decimal without a leading zero: that text, and no other, reads as the number, and it is what is written.
 // Every call takes any bytes; what does not read is `None`.
+#![tactic(auto)]
+
 mod writing;
 
 ghost use Rattle.std.specs.Prelude.{◌≡◌, ℕ, ◌≤◌, [], ◌∷◌, IfSome, Some, decimal};

@@ -39,7 +39,7 @@ pub(crate) fn write(heap: Global, bytes: &[u8]) -> Result<String, AllocError> {
         text.push('-')?;
     }
     for byte in bytes.iter().take(end) {
-        let part = format!(heap, "{byte:02x}")?;
+        let part = format!(in heap; "{byte:02x}")?;
         text.push_str(part.as_str())?;
     }
     Ok(text)

@@ -28,14 +28,14 @@ enum Answer {
 fn done_line(heap: Global, res: Result<(), Refusal>) -> Result<String, AllocError> {
     match res {
         Ok(()) => String::from_str(heap, "0"),
-        Err(refusal) => format!(heap, "{refusal}"),
+        Err(refusal) => format!(in heap; "{refusal}"),
     }
 }
 
 fn rule_line(heap: Global, res: Result<Rule, Refusal>) -> Result<String, AllocError> {
     match res {
-        Ok(rule) => format!(heap, "0 {rule}"),
-        Err(refusal) => format!(heap, "{refusal}"),
+        Ok(rule) => format!(in heap; "0 {rule}"),
+        Err(refusal) => format!(in heap; "{refusal}"),
     }
 }
 
@@ -210,10 +210,10 @@ impl Machine {
         match answer {
             Answer::Done(result) => done_line(heap, result),
             Answer::Read(result) => rule_line(heap, result),
-            Answer::Counted(count) => format!(heap, "0 {count}"),
+            Answer::Counted(count) => format!(in heap; "0 {count}"),
             Answer::Dumped => {
                 let digits = hex::write(heap, self.bytes.as_slice())?;
-                format!(heap, "0 {digits}")
+                format!(in heap; "0 {digits}")
             }
         }
     }

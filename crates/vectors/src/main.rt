@@ -1,4 +1,6 @@
 // Answers the commands of the case file on standard input, one line each, so that what it writes can be held to the reference's answers.
+#![tactic(auto)]
+
 mod hex;
 mod machine;
 mod words;

@@ -12,7 +12,7 @@ returns-in-Ok g c =
     let key = g.K.Stamp.key_of in
     let b = view g.S.Reading.entries c.args.book.now in
     let done = c.apply.ensures in
-    let is : call_of g.K.Stamp.reads c.args.line.now ≡ Ok c.in-Ok.call = sym c.read-call.ensures.value ∙ c.in-Ok.is in
+    let is : call_of g.K.Stamp.reads c.args.line.now ≡ Ok c.in-Ok.call = sym c.read_call.ensures.value ∙ c.in-Ok.is in
     record {
       answer = λ h. done.answer h ∙ sym (ap (λ read. line_answer key read b) is);
       after = λ h. done.after h ∙ sym (ap (λ read. line_after key read b) is);
@@ -29,7 +29,7 @@ pub returns-in-Err : goal.returns-in-Err
 returns-in-Err g c =
     let key = g.K.Stamp.key_of in
     let b = view g.S.Reading.entries c.args.book.now in
-    let is : call_of g.K.Stamp.reads c.args.line.now ≡ Err c.in-Err.refusal = sym c.read-call.ensures.value ∙ c.in-Err.is in
+    let is : call_of g.K.Stamp.reads c.args.line.now ≡ Err c.in-Err.refusal = sym c.read_call.ensures.value ∙ c.in-Err.is in
     record {
       answer = λ h. sym (ap (λ read. line_answer key read b) is);
       after = λ h. sym (ap (λ read. line_after key read b) is);

@@ -8,7 +8,7 @@ pub loop-slot-preserved : goal.loop-slot-preserved
 loop-slot-preserved g c = λ h.
     let staged = at c.args.own.now.staged in
     let before = c.loop-slot.invariant h in (
-      c.put-slot.ensures.sound before.0,
-      c.put-slot.ensures.after before.0 ∙ ap (λ l. slot_put staged l c.loop-slot.slot) before.1
+      c.put_slot.ensures.sound before.0,
+      c.put_slot.ensures.after before.0 ∙ ap (λ l. slot_put staged l c.loop-slot.slot) before.1
           ∙ sym (puts_more staged (g.S.Reading.entries c.args.store.now) c.loop-slot.slot),
     )

@@ -21,7 +21,7 @@ loop-slot-preserved g c =
     let staged = at c.args.own.now.staged in
     let entries = g.S.Reading.entries c.args.store.now in (
       λ h. let before = c.loop-slot.invariant.0 h in
-          let here = ap (λ l. slot_cause staged l c.loop-slot.slot) (sym c.loop-slot.invariant.1) ∙ sym (c.slot_cause.ensures.value before.0) ∙ c.in-default.is in
+          let here = ap (λ l. slot_cause staged l c.loop-slot.slot) (sym c.loop-slot.invariant.1) ∙ sym (c.slot_cause.ensures.value before.0) ∙ c.in_default.is in
           (c.slot_cause.ensures.sound before.0, refused_more staged entries c.loop-slot.slot _ before.1 here),
       c.slot_cause.ensures.same ∙ c.loop-slot.invariant.1,
     )

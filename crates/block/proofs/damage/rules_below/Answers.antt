@@ -9,8 +9,8 @@ loop-i-init c = rules_none _
 pub loop-i-preserved : goal.loop-i-preserved
 loop-i-preserved c = rules_more _ _ _ (sym c.rule_at.ensures ∙ c.in-Some.is) c.loop-i.invariant
 
-pub returns-in-default : goal.returns-in-default
-returns-in-default c = sym (rules_not _ _ _ c.loop-i-test.true (sym c.rule_at.ensures ∙ c.in-default.is))
+pub returns-in_default : goal.returns-in_default
+returns-in_default c = sym (rules_not _ _ _ c.loop-i-test.true (sym c.rule_at.ensures ∙ c.in_default.is))
 
 pub returns : goal.returns
 returns c = sym c.loop-i.invariant ∙ ap (rules_below _) (omega arith)

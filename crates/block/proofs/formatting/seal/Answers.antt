@@ -7,4 +7,4 @@ use Rattle.block.proofs.formatting.seal.Goals as goal
 pub returns : goal.returns
 returns c =
     seal_writes _ _ (omega arith)
-    (c.to-be-bytes-check.ensures ∙ ap word_bytes (c.checksum.ensures ∙ ap check (behind_check _ c.requires)))
+    (c.to_be_bytes-check.ensures ∙ ap word_bytes (c.checksum.ensures ∙ ap check (behind_check _ c.requires)))

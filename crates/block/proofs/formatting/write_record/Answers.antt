@@ -5,4 +5,4 @@ use Rattle.block.proofs.formatting.write_record.Goals as goal
 
 pub returns : goal.returns
 unfolding rewritten
-returns c = c.seal.ensures ∙ ap sealed (record_pasted c.args.block.now _ c.args.i c.args.rule (c.copy-from-slice.ensures.after ∙ c.record_bytes.ensures))
+returns c = c.seal.ensures ∙ ap sealed (record_pasted c.args.block.now _ c.args.i c.args.rule (c.copy_from_slice.ensures.after ∙ c.record_bytes.ensures))

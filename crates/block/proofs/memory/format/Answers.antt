@@ -15,14 +15,14 @@ pub loop-number-preserved : goal.loop-number-preserved
 loop-number-preserved c =
     let k = c.args.count in
     let n = c.loop-number.number in
-    let f = fits_says k (length c.args.bytes.now) c.in-ok-check.ensures.ok in
-    let block = c.format-block.ensures ∙ ap (λ m. laid_out n (replicate m open_rule)) c.slots-in-slots.ensures in
-    formatted_more k n _ c.loop-number.bytes c.format-block.new.block (omega (arith, f.whole)) block c.loop-number.invariant
+    let f = fits_says k (length c.args.bytes.now) c.in_ok-check.ensures.ok in
+    let block = c.format_block.ensures ∙ ap (λ m. laid_out n (replicate m open_rule)) c.slots_in-slots.ensures in
+    formatted_more k n _ c.loop-number.bytes c.format_block.new.block (omega (arith, f.whole)) block c.loop-number.invariant
 
 pub returns : goal.returns
 returns c =
     let k = c.args.count in
-    let e = c.in-ok-check.ensures.ok in
+    let e = c.in_ok-check.ensures.ok in
     let f = fits_says k (length c.args.bytes.now) e in
     let all = formatted_all k c.loop-number.number c.loop-number.bytes (omega (arith, f.whole)) (omega arith) c.loop-number.invariant in
     let size : length c.loop-number.bytes ≡ length c.args.bytes.now = omega arith in

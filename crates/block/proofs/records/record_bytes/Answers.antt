@@ -6,5 +6,5 @@ use Rattle.block.proofs.records.record_bytes.Goals as goal
 pub returns : goal.returns
 unfolding record_bytes
 returns c =
-    bytes_written _ _ _ _ c.to-be-bytes-address.ensures c.to-be-bytes-first.ensures c.to-be-bytes-last.ensures
+    bytes_written _ _ _ _ c.to_be_bytes-address.ensures c.to_be_bytes-first.ensures c.to_be_bytes-last.ensures
     ∙ ap bytes_of c.parts-parts.ensures

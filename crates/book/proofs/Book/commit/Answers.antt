@@ -16,8 +16,8 @@ returns g c =
       answer = search rules;
       after = λ h.
           let none : first_cause (checks b (commit s)) ≡ None = search rules in
-          let number = c.next-number-number.ensures h none in
-          let rules = c.put-rules.ensures.after (c.commit-cause.ensures.sound h.store) inside ∙ ap (stored s) c.commit-cause.ensures.same in
+          let number = c.next_number-number.ensures h none in
+          let rules = c.put_rules.ensures.after (c.commit_cause.ensures.sound h.store) inside ∙ ap (stored s) c.commit_cause.ensures.same in
           c.tell.ensures.after inside ∙ ap₂ (λ n (a : State). told s n a) number rules ∙ sym (ap (λ o. after_where o b (commit s)) none);
       store = search rules;
     }

@@ -8,10 +8,10 @@ use Rattle.book.specs.Views.{view}
 use Rattle.book.proofs.Commits.{number_next}
 use Rattle.book.proofs.Book.next_number.Goals as goal
 
-pub returns-then-any-below : goal.returns-then-any-below
-returns-then-any-below g c = λ h free.
+pub returns-then-any_below : goal.returns-then-any_below
+returns-then-any_below g c = λ h free.
     let b = view g.S.Reading.entries c.args.self.now in
     let s = c.args.session in
-    let wrote : has c.slots-written.result ≡ written (work_of b s) = c.slots-written.ensures ∙ ap (λ (p : Session). written p.work) c.in-Some.ensures.1 in
-    let any : any_below (count b) (written (work_of b s)) ≡ true = sym (c.if-any-below.ensures ∙ ap (λ k. any_below k (has c.slots-written.result)) c.count.ensures ∙ ap (any_below (count b)) wrote) in
-    number_next b s c.saturating-add.result h.room free any c.saturating-add.ensures
+    let wrote : has c.slots_written.result ≡ written (work_of b s) = c.slots_written.ensures ∙ ap (λ (p : Session). written p.work) c.in-Some.ensures.1 in
+    let any : any_below (count b) (written (work_of b s)) ≡ true = sym (c.if-any_below.ensures ∙ ap (λ k. any_below k (has c.slots_written.result)) c.count.ensures ∙ ap (any_below (count b)) wrote) in
+    number_next b s c.saturating_add.result h.room free any c.saturating_add.ensures

@@ -3,14 +3,14 @@ use Rattle.rule.proofs.Fields.{fields_split, fields_unsplit}
 use Rattle.line.specs.Cutting.{placed}
 use Rattle.line.proofs.cutting.first_field.Goals as goal
 
-pub overflow-cast-next : goal.overflow-cast-next
-overflow-cast-next c = let h = fields_split c.args.part.bytes.now _ _ c.in-Some.ensures in search rules
+pub overflow_cast-next : goal.overflow_cast-next
+overflow_cast-next c = let h = fields_split c.args.part.bytes.now _ _ c.in-Some.ensures in search rules
 
-pub overflow-add-next : goal.overflow-add-next
-overflow-add-next c = let h = fields_split c.args.part.bytes.now _ _ c.in-Some.ensures in search rules
+pub overflow_add-next : goal.overflow_add-next
+overflow_add-next c = let h = fields_split c.args.part.bytes.now _ _ c.in-Some.ensures in search rules
 
-pub overflow-add-next-in-Some : goal.overflow-add-next-in-Some
-overflow-add-next-in-Some c = let h = fields_split c.args.part.bytes.now _ _ c.in-Some.ensures in search rules
+pub overflow_add-next-in-Some : goal.overflow_add-next-in-Some
+overflow_add-next-in-Some c = let h = fields_split c.args.part.bytes.now _ _ c.in-Some.ensures in search rules
 
 pub returns-in-Some : goal.returns-in-Some
 returns-in-Some c =

@@ -9,12 +9,12 @@ use Rattle.queue.proofs.Queue.pending_clash.Goals as goal
 pub loop-i-init : goal.loop-i-init
 loop-i-init c = first_start change_view (meets_pending c.args.count (key_view c.args.key) (has c.args.read)) (vec_items c.args.self.now.changes)
 
-pub returns-then-clashes-pending : goal.returns-then-clashes-pending
-returns-then-clashes-pending c =
+pub returns-then-clashes_pending : goal.returns-then-clashes_pending
+returns-then-clashes_pending c =
     let test : Queued → Bool = meets_pending c.args.count (key_view c.args.key) (has c.args.read) in
     let xs = vec_items c.args.self.now.changes in
     sym (first_found (λ (e : Change). test (change_view e)) xs c.loop-i.i c.index.result.now
-    (omega (arith, c.len-i-end.ensures, c.args.self.now.changes.ok.0)) c.index.ensures (sym c.clashes-pending.ensures ∙ c.if-clashes-pending.true))
+    (omega (arith, c.len-i-end.ensures, c.args.self.now.changes.ok.0)) c.index.ensures (sym c.clashes_pending.ensures ∙ c.if-clashes_pending.true))
     ∙ c.loop-i.invariant
 
 pub loop-i-preserved : goal.loop-i-preserved
@@ -22,7 +22,7 @@ loop-i-preserved c =
     let test : Queued → Bool = meets_pending c.args.count (key_view c.args.key) (has c.args.read) in
     let xs = vec_items c.args.self.now.changes in
     sym (first_more (λ (e : Change). test (change_view e)) xs c.loop-i.i c.index.result.now
-    (omega (arith, c.len-i-end.ensures, c.args.self.now.changes.ok.0)) c.index.ensures (sym c.clashes-pending.ensures ∙ c.if-clashes-pending.false))
+    (omega (arith, c.len-i-end.ensures, c.args.self.now.changes.ok.0)) c.index.ensures (sym c.clashes_pending.ensures ∙ c.if-clashes_pending.false))
     ∙ c.loop-i.invariant
 
 pub returns : goal.returns

@@ -10,7 +10,7 @@ pub returns-then-len-lt-ROOM : goal.returns-then-len-lt-ROOM
 returns-then-len-lt-ROOM c =
     let items = vec_items c.args.self.now.changes in
     let room : length (queue_view c.args.self.now) < 32 = omega (arith, c.len.ensures, length-map items change_view, c.args.self.now.changes.ok.0) in
-    ap (map change_view) c.push-reserved.ensures.items ∙ map_push change_view items c.args.change ∙ cond_below _ 32 _ _ room
+    ap (map change_view) c.push_reserved.ensures.items ∙ map_push change_view items c.args.change ∙ cond_below _ 32 _ _ room
 
 pub returns-else-len-lt-ROOM : goal.returns-else-len-lt-ROOM
 returns-else-len-lt-ROOM c =

@@ -4,8 +4,8 @@ use Rattle.tables.specs.Meaning.{at, marked}
 use Rattle.tables.proofs.Tables.{upto, upto_all, marked_outside, marked_none}
 use Rattle.tables.proofs.SlotMap.mark.Goals as goal
 
-pub returns-then-is-empty : goal.returns-then-is-empty
-returns-then-is-empty g c = marked_none c.args.set c.args.value (at c.args.self.now) (c.is-empty.ensures.cases.0 c.if-is-empty.true)
+pub returns-then-is_empty : goal.returns-then-is_empty
+returns-then-is_empty g c = marked_none c.args.set c.args.value (at c.args.self.now) (c.is_empty.ensures.cases.0 c.if-is_empty.true)
 
 pub returns : goal.returns
 returns g c =

@@ -2,8 +2,8 @@ use Rattle.std.proofs.Common.{rules}
 use Rattle.tables.proofs.Counts.{lowest_inside, lowest_outside, lowest_empty}
 use Rattle.tables.proofs.sets.lowest_below.Goals as goal
 
-pub returns-in-default : goal.returns-in-default
-returns-in-default c = search (rules, lowest_empty)
+pub returns-in_default : goal.returns-in_default
+returns-in_default c = search (rules, lowest_empty)
 
 pub returns-then-slot-count : goal.returns-then-slot-count
 returns-then-slot-count c = search (rules, lowest_inside)

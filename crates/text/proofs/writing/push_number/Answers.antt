@@ -5,14 +5,14 @@ use Rattle.text.proofs.writing.push_number.Goals as goal
 pub loop-left-init : goal.loop-left-init
 loop-left-init c = digits_none _ _ (omega arith) refl refl
 
-pub overflow-sub-from : goal.overflow-sub-from
-overflow-sub-from c = digits_room _ _ _ _ c.loop-left.invariant
+pub overflow_sub-from : goal.overflow_sub-from
+overflow_sub-from c = digits_room _ _ _ _ c.loop-left.invariant
 
 pub loop-left-preserved : goal.loop-left-preserved
 loop-left-preserved c = digits_more _ _ _ _ c.loop-left.invariant c.loop-left-test.true
 
-pub overflow-sub-from-2 : goal.overflow-sub-from-2
-overflow-sub-from-2 c = digits_room _ _ _ _ c.loop-left.invariant
+pub overflow_sub-from-2 : goal.overflow_sub-from-2
+overflow_sub-from-2 c = digits_room _ _ _ _ c.loop-left.invariant
 
 pub returns : goal.returns
-returns c = let text = digits_all _ _ _ _ c.loop-left.invariant c.loop-left-test.false in let items = c.extend-from-slice.ensures.items in cc
+returns c = let text = digits_all _ _ _ _ c.loop-left.invariant c.loop-left-test.false in let items = c.extend_from_slice.ensures.items in cc

@@ -13,11 +13,11 @@ entry-requires c =
     let bytes = vec_items c.args.self.now.bytes in
     let k = c.args.self.now.count in
     let lt : c.args.slot < length (block_entries bytes k) = omega (arith, c.slots.ensures) in
-    (ap (λ l. fits k (length l)) c.as-slice.ensures.value ∙ sized bytes k c.args.slot lt, below_count bytes k c.args.slot lt)
+    (ap (λ l. fits k (length l)) c.as_slice.ensures.value ∙ sized bytes k c.args.slot lt, below_count bytes k c.args.slot lt)
 
 pub returns : goal.returns
 returns c =
     let bytes = vec_items c.args.self.now.bytes in
     let k = c.args.self.now.count in
     let lt : c.args.slot < length (block_entries bytes k) = omega (arith, c.slots.ensures) in
-    c.rule.ensures ∙ ap answer (c.entry.ensures ∙ ap (λ l. entry_at l k c.args.slot) c.as-slice.ensures.value) ∙ sym (got_entry bytes k c.args.slot lt)
+    c.rule.ensures ∙ ap answer (c.entry.ensures ∙ ap (λ l. entry_at l k c.args.slot) c.as_slice.ensures.value) ∙ sym (got_entry bytes k c.args.slot lt)

@@ -5,5 +5,5 @@ use Rattle.block.proofs.store.BlockStore.slots.Goals as goal
 
 pub returns-in-Ok : goal.returns-in-Ok
 returns-in-Ok c =
-    let size = ap (λ l. fits c.args.self.now.count (length l)) (sym c.as-slice.ensures.value) ∙ c.in-Ok.ensures.ok in
+    let size = ap (λ l. fits c.args.self.now.count (length l)) (sym c.as_slice.ensures.value) ∙ c.in-Ok.ensures.ok in
     sym (length_entries (vec_items c.args.self.now.bytes) c.args.self.now.count size)

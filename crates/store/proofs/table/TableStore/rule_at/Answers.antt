@@ -17,4 +17,4 @@ pub returns : goal.returns
 returns c =
     let rows = vec_items c.args.self.now.rows in
     let lt : c.args.slot < length (table_entries rows) = omega (arith, c.slots.ensures) in
-    c.rule.ensures ∙ ap answer (c.entry-of.ensures ∙ ap row_entry c.index.ensures) ∙ sym (got_row rows c.args.slot c.index.result.now lt)
+    c.rule.ensures ∙ ap answer (c.entry_of.ensures ∙ ap row_entry c.index.ensures) ∙ sym (got_row rows c.args.slot c.index.result.now lt)

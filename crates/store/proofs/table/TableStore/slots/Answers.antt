@@ -7,5 +7,5 @@ use Rattle.store.proofs.table.TableStore.slots.Goals as goal
 pub returns-in-Ok : goal.returns-in-Ok
 returns-in-Ok c =
     let rows = vec_items c.args.self.now.rows in
-    let size = ap (λ l. right_size (length l)) (sym c.as-slice.ensures.value) ∙ c.in-Ok.ensures.ok.1 in
+    let size = ap (λ l. right_size (length l)) (sym c.as_slice.ensures.value) ∙ c.in-Ok.ensures.ok.1 in
     omega (arith, ap length (counted rows size), length-map rows row_entry, c.len.ensures, c.args.self.now.rows.ok.0)
