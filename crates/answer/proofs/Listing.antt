@@ -10,20 +10,20 @@ some_long : (bs : List ℕ) → 0 < length bs → some bs ≡ true
 some_long [] h = absurd (omega arith)
 some_long (b ∷ bs) h = refl
 
-some_after : (bs : List ℕ) (n : ℕ) → n < 2 ^ 64 → true ≡ some (bs ++ entry_text (some bs) n)
+pub some_after : (bs : List ℕ) (n : ℕ) → n < 2 ^ 64 → true ≡ some (bs ++ entry_text (some bs) n)
 some_after [] n h = sym (some_long (decimal n) (decimal_nonempty n h))
 some_after (b ∷ bs) n h = refl
 
 -- one slot more, which is in the set or not
-listed_in : (n : ℕ) (set : ℕ → Bool) → set n ≡ true → listed n set ++ entry_text (some (listed n set)) n ≡ listed (n + 1) set
+pub listed_in : (n : ℕ) (set : ℕ → Bool) → set n ≡ true → listed n set ++ entry_text (some (listed n set)) n ≡ listed (n + 1) set
 unfolding listed
 listed_in n set e = rw add-one (sym (ap (λ b. cond b (listed n set ++ entry_text (some (listed n set)) n) (listed n set)) e))
 
-listed_out : (n : ℕ) (set : ℕ → Bool) → set n ≡ false → listed n set ≡ listed (n + 1) set
+pub listed_out : (n : ℕ) (set : ℕ → Bool) → set n ≡ false → listed n set ≡ listed (n + 1) set
 unfolding listed
 listed_out n set e = rw add-one (sym (ap (λ b. cond b (listed n set ++ entry_text (some (listed n set)) n) (listed n set)) e))
 
-hyphen_none : (bs : List ℕ) → false ≡ some bs → bs ++ 45 ∷ [] ≡ or_hyphen bs
+pub hyphen_none : (bs : List ℕ) → false ≡ some bs → bs ++ 45 ∷ [] ≡ or_hyphen bs
 hyphen_none [] e = refl
 hyphen_none (b ∷ bs) e = absurd (let z : ◌≡◌ {A = ℕ} 0 1 = cc in omega arith)
 

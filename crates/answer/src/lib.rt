@@ -5,7 +5,7 @@
 
 mod slot_list;
 
-ghost use Rattle.std.specs.Prelude.{◌++◌, codes, decimal};
+ghost use Rattle.std.specs.Prelude.{◌++◌, Some, codes, decimal};
 ghost use Rattle.rule.specs.Text.{text};
 ghost use Rattle.text.specs.Appending.{Appends};
 ghost use Rattle.answer.specs.Texts.{learnt_text, answer_text, line_text};
@@ -14,9 +14,10 @@ ghost use Rattle.slots.specs.Meaning.{has};
 
 use protocol::Answer;
 use rule::Rule;
-use slot_list::push_slots;
+use slot_list::{SlotList, push_slots};
 use slots::SlotSet;
 use std::alloc::AllocError;
+use std::fmt;
 use text::push_number;
 
 // The answer to a line, with the number of the line.
@@ -84,5 +85,30 @@ impl AnswerLine {
         push_number(out, self.line)?;
         out.push(b' ')?;
         push_answer(out, self.answer)
+    }
+}
+
+impl fmt::Display for AnswerLine {
+    ghost output = { λ a. Some (line_text a) };
+
+    fn fmt<W: fmt::Write>(&self, f: &mut fmt::Formatter<W>) -> fmt::Result {
+        let line = self.line;
+        match self.answer {
+            Answer::Done => write!(f, "{line} 0"),
+            Answer::Got(rule) => write!(f, "{line} 0 {rule}"),
+            Answer::Queued(place) => write!(f, "{line} 0 {place}"),
+            Answer::Numbered(number) => write!(f, "{line} 0 {number}"),
+            Answer::Learnt {
+                number,
+                slots,
+                ended,
+            } => {
+                let list = SlotList { slots };
+                let ended = u8::from(ended);
+                write!(f, "{line} 0 {number} {list} {ended}")
+            }
+            Answer::Removed(count) => write!(f, "{line} 0 {count}"),
+            Answer::Refused(refusal) => write!(f, "{line} {refusal}"),
+        }
     }
 }

@@ -1,10 +1,12 @@
 // How a set of slots is written: rising, with commas, or a hyphen where there is none.
+ghost use Rattle.std.specs.Prelude.{Some};
 ghost use Rattle.text.specs.Appending.{Appends};
 ghost use Rattle.slots.specs.Meaning.{has};
 ghost use Rattle.answer.specs.Slots.{slots_text, entry_text};
 
 use slots::{SLOTS, SlotSet};
 use std::alloc::AllocError;
+use std::fmt;
 use text::push_number;
 
 // A slot, with the comma that stands before all but the first.
@@ -31,5 +33,47 @@ pub(crate) fn push_slots(out: &mut Vec<u8>, slots: SlotSet) -> Result<(), AllocE
         Ok(())
     } else {
         out.extend_from_slice(b"-")
+    }
+}
+
+// One slot of the list, with the comma that stands before all but the first.
+#[derive(Clone, Copy)]
+struct Entry {
+    slot: u32,
+    more: bool,
+}
+
+impl fmt::Display for Entry {
+    ghost output = { λ e. Some (entry_text e.more e.slot) };
+
+    fn fmt<W: fmt::Write>(&self, f: &mut fmt::Formatter<W>) -> fmt::Result {
+        let slot = self.slot;
+        if self.more {
+            write!(f, ",{slot}")
+        } else {
+            write!(f, "{slot}")
+        }
+    }
+}
+
+#[derive(Clone, Copy)]
+pub struct SlotList {
+    pub slots: SlotSet,
+}
+
+impl fmt::Display for SlotList {
+    ghost output = { λ l. Some (slots_text (has l.slots)) };
+
+    fn fmt<W: fmt::Write>(&self, f: &mut fmt::Formatter<W>) -> fmt::Result {
+        let slots = self.slots;
+        let mut more = false;
+        for slot in 0..SLOTS {
+            if slots.contains(slot) {
+                let entry = Entry { slot, more };
+                write!(f, "{entry}")?;
+                more = true;
+            }
+        }
+        if more { Ok(()) } else { write!(f, "-") }
     }
 }

@@ -45,6 +45,8 @@ pub(crate) fn format_block(block: &mut [u8], number: u8, slots: u8)
 }
 
 // A block that is written is a block that reads back.
-pub fn written_reads_back()
+pub fn written_reads_back() -> u8
     ensures { WrittenReadsBack }
-{}
+{
+    0
+}

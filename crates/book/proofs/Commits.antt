@@ -5,8 +5,8 @@ use Rattle.calls.specs.State.{State, written}
 use Rattle.calls.specs.Words.{commit}
 use Rattle.calls.specs.Checks.{first_cause, checks, count, work_of, last_number}
 use Rattle.calls.specs.Effects.{number_after}
-use Rattle.calls.specs.Room.{Room}
-use Rattle.calls.proofs.Rooms.{room_next}
+use Rattle.room.specs.Room.{Room}
+use Rattle.room.proofs.Rooms.{room_next}
 
 -- where a number is left, the sum that stops at the last one is the next number
 pub number_next : (b : State) (s n : ℕ) → Room b → first_cause (checks b (commit s)) ≡ None → any_below (count b) (written (work_of b s)) ≡ true → n ≡ min (b.number + 1) last_number → n ≡ number_after b s

@@ -5,11 +5,15 @@ use Rattle.calls.specs.State.{State, just_made}
 use Rattle.calls.specs.Words.{Call, Answer}
 use Rattle.calls.specs.Calls.{answer, after}
 use Rattle.calls.specs.Histories.{Event, event, Reached, made, called}
-use Rattle.calls.specs.Room.{Room}
+use Rattle.room.specs.Room.{Room}
 use Rattle.book.specs.declared.Book.{Book}
 use Rattle.book.specs.Runs.{Sound, said}
 use Rattle.book.specs.Views.{view}
-use Rattle.calls.proofs.Rooms.{room_made, room_after}
+use Rattle.room.proofs.Rooms.{room_made, room_after}
+
+pub room_reached : (first : List Entry) (h : List Event) (b : State) → Reached first h b → Room b
+room_reached first _ _ made = room_made first
+room_reached first _ _ (called {h} {b} r c) = room_after b c (room_reached first h b r)
 
 pub reached_more : (first : List Entry) (h : List Event) (b later : State) (c : Call) (a : Answer) → a ≡ answer b c → later ≡ after b c → Reached first h b → Reached first (said c a ∷ h) later
 reached_more first h b later c a said-so left r =

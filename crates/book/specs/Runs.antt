@@ -6,7 +6,7 @@ use Rattle.calls.specs.Words.{Call, Answer}
 use Rattle.calls.specs.Calls.{after}
 use Rattle.calls.specs.Histories.{Event}
 use Rattle.book.specs.declared.Book.{Book}
-use Rattle.calls.specs.Room.{Room}
+use Rattle.room.specs.Room.{Room}
 use Rattle.book.specs.Views.{view}
 
 -- the store is sound, and there is a notice number left for every pending change that writes

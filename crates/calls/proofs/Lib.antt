@@ -3,7 +3,6 @@ pub mod Sets
 pub mod Invariant
 pub mod kept
 pub mod Steps
-pub mod Owings
-pub mod Rooms
+pub mod Bounds
 pub mod Causes
 pub mod Sessions

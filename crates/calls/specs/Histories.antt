@@ -1,6 +1,6 @@
 -- Histories of calls with their answers, and the law of every run of calls. Assumes nothing.
 -- A history has the latest event in front.
-use Rattle.std.specs.Prelude.{◌≡◌, ℕ, Bool, true, false, cond, List, [], ◌∷◌, map, Some, None, Option, ◌==◌}
+use Rattle.std.specs.Prelude.{◌≡◌, ℕ, ◌+◌, ◌≤◌, Bool, true, false, cond, List, [], ◌∷◌, map, length, Some, None, Option, ◌==◌}
 use Rattle.refusal.specs.declared.Refusal.{Refusal}
 use Rattle.refusal.specs.Table.{told}
 use Rattle.rule.specs.declared.Rule.{Rule}
@@ -33,9 +33,8 @@ use Rattle.calls.specs.Words.{
   removed,
   refused,
 }
-use Rattle.calls.specs.Checks.{count, work_of, refused_get}
+use Rattle.calls.specs.Checks.{count, work_of, owed, last_number, refused_get}
 use Rattle.calls.specs.Calls.{answer, after}
-use Rattle.calls.specs.Room.{Room}
 
 -- a call with the answer that it got
 pub record Event : Type 0 where
@@ -161,9 +160,14 @@ LawOfRuns =
 abbrev pub LawOfReached : Type 0
 LawOfReached = (first : List Entry) (h : List Event) (b : State) → Reached first h b → LawOf first h b.entries
 
--- there is room in every state that is reached: its numbers fit 32 bits, and its queue fits 32 places
-abbrev pub RoomOfReached : Type 0
-RoomOfReached = (first : List Entry) (h : List Event) (b : State) → Reached first h b → Room b
+-- numbers that a book can keep in 32 bits, and a queue that it can keep in 32 places: each pending change that writes finds a notice number
+pub record Bounds (b : State) : Type 0 where
+  pub numbers : b.number + owed (count b) b.queue ≤ last_number
+  pub places : length b.queue ≤ 32
+
+-- they hold of every state that is reached
+abbrev pub BoundsOfReached : Type 0
+BoundsOfReached = (first : List Entry) (h : List Event) (b : State) → Reached first h b → Bounds b
 
 -- no commit is refused by its store
 abbrev pub CommitsOfReached : Type 0

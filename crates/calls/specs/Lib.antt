@@ -4,5 +4,4 @@ pub mod Words
 pub mod Checks
 pub mod Effects
 pub mod Calls
-pub mod Room
 pub mod Histories

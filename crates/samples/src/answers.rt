@@ -9,8 +9,10 @@ use std::process::Abort;
 use std::test::Fail;
 
 fn check_text(rt: &impl Abort, heap: Global, answer: Answer, text: &str) -> Result<(), Fail> {
+    let line = AnswerLine { line: 9, answer };
+    assert_eq!(rt; line.to_string(heap)?.as_str(), text);
     let mut written = Vec::new(heap);
-    AnswerLine { line: 9, answer }.push_text(&mut written)?;
+    line.push_text(&mut written)?;
     assert_eq!(rt; written.as_slice(), text.as_bytes());
     Ok(())
 }

@@ -1,11 +1,10 @@
 use Rattle.std.proofs.Common.{List}
 use Rattle.store.specs.declared.Entry.{Entry}
 use Rattle.calls.specs.Histories.{Event, Reached}
-use Rattle.calls.proofs.Rooms.{room_of_reached}
 use Rattle.calls.proofs.Steps.{law_of_reached}
 use Rattle.book.specs.Runs.{Sound}
 use Rattle.book.specs.Views.{view, answer_view, call_view}
-use Rattle.book.proofs.Reaching.{reached_more, sound_kept}
+use Rattle.book.proofs.Reaching.{room_reached, reached_more, sound_kept}
 use Rattle.book.proofs.Book.apply.Goals as goal
 
 pub returns : goal.returns
@@ -14,7 +13,7 @@ returns g c =
     let call = call_view g.K.Stamp.key_of c.args.call in
     let done = c.dispatch.ensures in
     let reached = λ (s : g.S.Reading.sound c.args.self.now.store) (first : List Entry) (h : List Event) (r : Reached first h b).
-    let sound : Sound g.S.Reading.entries g.S.Reading.sound c.args.self.now = record { store = s; room = room_of_reached first h b r } in
+    let sound : Sound g.S.Reading.entries g.S.Reading.sound c.args.self.now = record { store = s; room = room_reached first h b r } in
     reached_more first h b (view g.S.Reading.entries c.dispatch.new.self) call (answer_view c.dispatch.result) (done.answer sound) (done.after sound) r in
     record {
       answer = done.answer;

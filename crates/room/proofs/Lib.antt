@@ -1,0 +1,2 @@
+mod Owings
+pub mod Rooms
