@@ -4,8 +4,8 @@
 #![tactic(auto)]
 
 use anyhow::anyhow;
+use block::block_store::{BlockStore, memory_size};
 use block::memory::format;
-use block::store::{BlockStore, memory_size};
 use refusal::Refusal;
 use rule::{Parts, Rule};
 use std::env;

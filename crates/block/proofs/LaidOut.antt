@@ -2,7 +2,7 @@
 use Rattle.std.proofs.Common.{◌≡◌, ℕ, zero, suc, ◌+◌, ◌-◌, ◌*◌, ◌<◌, ◌≤◌, true, List, [], ◌∷◌, ◌++◌, length, get_or, take, drop, replicate, is_some, Some, None, sym, refl, ap, ◌∙◌, arith, length-append}
 use borrow.Rule.Slice.PartMut.{put_mid}
 use lib.ListN.{length-replicate}
-use Rattle.std.specs.List.{flat_map, AllByRecursion as All}
+use Rattle.std.specs.List.{flat_map, AllByRecursion}
 use lib.Seq.{paste}
 use Rattle.std.proofs.ByRecursion.{All-append}
 use Rattle.std.proofs.lemmas.List.{drop-drop, drop_at, take_at, drop-replicate, flat_map_more, replicate_more, length_push, take_all}
@@ -91,7 +91,7 @@ rule_laid n rules i h =
 
 -- each of its elements is a byte
 abbrev Bytes : List ℕ → Type 0
-Bytes bytes = All (λ byte. byte < 256) bytes
+Bytes bytes = AllByRecursion (λ byte. byte < 256) bytes
 
 bytes_record : (r : Rule) → Bytes (record_bytes r)
 unfolding record_bytes

@@ -1,7 +1,7 @@
 -- A block of 512 bytes: where its check, head and records stand, what is wrong with one, and how one is written.
 -- Below b is the list of a block's bytes, n the number of the block, and k the number of its slots. Assumes nothing.
 use Rattle.std.specs.Prelude.{◌≡◌, ℕ, zero, suc, ◌+◌, ◌-◌, ◌*◌, ◌/◌, ◌%◌, ◌<◌, ◌≤◌, Bool, true, cond, not, ◌&&◌, List, [], ◌∷◌, ◌++◌, length, drop, replicate, is_some, Some, None, Option, ◌==◌, slice_index, slice_index_or}
-use Rattle.std.specs.List.{between, flat_map, AllByRecursion as All}
+use Rattle.std.specs.List.{between, flat_map, AllByRecursion}
 use Rattle.std.proofs.Math.Seq.{paste}
 use Rattle.refusal.specs.declared.Fault.{Fault}
 use Rattle.refusal.specs.declared.Fault.TheVariants.{Check, Head, Record}
@@ -97,7 +97,7 @@ laid_out n rules =
 -- what is written reads back: a block of 512 bytes, with nothing wrong, and with each rule in its place
 pub record ReadsBack (n : ℕ) (rules : List Rule) : Type 0 where
   pub size : length (laid_out n rules) ≡ 512
-  pub bytes : All (λ byte. byte < 256) (laid_out n rules)
+  pub bytes : AllByRecursion (λ byte. byte < 256) (laid_out n rules)
   pub right : damage_of (laid_out n rules) n (length rules) ≡ None
   pub reads : (i : ℕ) → i < length rules → rule_at (laid_out n rules) i ≡ Some (slice_index_or rules i open_rule)
 

@@ -5,11 +5,11 @@
 // What is written reads back, and a write changes its record and the check and nothing else.
 #![tactic(auto)]
 
+pub mod block_store;
 mod damage;
 mod formatting;
 pub mod memory;
 mod records;
-pub mod store;
 mod sum;
 
 pub use formatting::written_reads_back;

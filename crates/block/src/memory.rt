@@ -5,8 +5,8 @@ ghost use Rattle.store.specs.declared.Entry.TheVariants.{Intact};
 ghost use Rattle.block.specs.Memory.{checked, block_entries, format_bytes};
 
 use crate::BLOCK;
+use crate::block_store::{SLOTS, check, slots_in};
 use crate::formatting::format_block;
-use crate::store::{SLOTS, check, slots_in};
 use refusal::Refusal;
 
 // Writes blocks of open rules over a memory of `count` slots, whatever it held.

@@ -1,12 +1,12 @@
 -- The notice number stays within 32 bits and the queue within 32 places. Assumes nothing.
 use Rattle.std.proofs.Common.{◌≡◌, ℕ, suc, ◌+◌, ◌<◌, ◌≤◌, Bool, true, false, cond, not, ◌&&◌, eqb, List, [], ◌∷◌, ◌++◌, map, length, is_some, Some, None, filter, Option, sym, refl, ap, ◌∙◌, subst, inl, inr, ⊎_elim, arith}
 use mathlib.Core.Bool.{false≢true}
-use Rattle.std.specs.List.{AllByRecursion as All}
+use Rattle.std.specs.List.{AllByRecursion}
 use Rattle.std.proofs.lemmas.Bool.{cond_both, both_ways, leb-false, eqb-false, or_cases, and_from, and_parts, and_left, and_right}
 use Rattle.refusal.specs.declared.Refusal.{Refusal}
 use Rattle.rule.specs.declared.Rule.{Rule}
 use Rattle.store.specs.declared.Entry.{Entry}
-use Rattle.law.specs.Changes.{Key, Change, pending as is-pending-change}
+use Rattle.law.specs.Changes.{Key, Change, pending as is_pending_change}
 use Rattle.law.specs.Accounts.{Account}
 use Rattle.calls.specs.Sets.{lowest, any_below}
 use Rattle.calls.specs.State.{pending, Queued, State, written}
@@ -101,16 +101,16 @@ owed_own n s (q ∷ qs) (inr h) = go (wants n (finished s q)) (wants n q) (finis
     go false false f le = le
 
 -- the pending change of a session is in the queue
-waiting_queued : (s : ℕ) (staged : ℕ → Option Rule) (queue : List Queued) (t : Option Key) (cs : List (Change Rule)) → All (Known queue t) cs
-    → All (Mine s staged) cs → has_pending s cs ≡ true
+waiting_queued : (s : ℕ) (staged : ℕ → Option Rule) (queue : List Queued) (t : Option Key) (cs : List (Change Rule)) → AllByRecursion (Known queue t) cs
+    → AllByRecursion (Mine s staged) cs → has_pending s cs ≡ true
     → Any (λ (q : Queued). (own_pending s q ≡ true) × ((x : ℕ) → q.written x ≡ is_some (staged x))) queue
 waiting_queued s staged queue t [] known mine has = absurd (false≢true has)
 waiting_queued s staged queue t (c ∷ cs) known mine has =
     ⊎_elim (λ p. ⊎_elim
-    (λ gone. absurd (both_ways (is-pending-change c) gone.0 (and_parts (is-pending-change c) _ p).0))
+    (λ gone. absurd (both_ways (is_pending_change c) gone.0 (and_parts (is_pending_change c) _ p).0))
     (λ h. any_weaker (Matches c) (λ (q : Queued). (own_pending s q ≡ true) × ((x : ℕ) → q.written x ≡ is_some (staged x)))
     (λ q m. (
-      ap (λ v. v && eqb q.session s) m.waits ∙ ap (λ z. is-pending-change c && eqb z s) m.session ∙ p,
+      ap (λ v. v && eqb q.session s) m.waits ∙ ap (λ z. is_pending_change c && eqb z s) m.session ∙ p,
       λ x. m.writes x
           ∙ ap is_some (sym (mine.0 p x)),
     )) queue h)

@@ -1,7 +1,7 @@
 -- The first cause, check by check: for code that tries the checks one after another. Assumes nothing.
 use Rattle.std.proofs.Common.{◌≡◌, ℕ, suc, Bool, true, false, cond, not, leb, List, [], ◌∷◌, length, Some, None, Option, refl, ap, ◌∙◌}
 use Rattle.std.specs.Option.{option_map, option_or}
-use Rattle.std.specs.List.{AllByRecursion as All}
+use Rattle.std.specs.List.{AllByRecursion}
 use Rattle.refusal.specs.declared.Refusal.{Refusal}
 use Rattle.law.specs.Changes.{Key, same_key}
 use Rattle.calls.specs.Sets.{first_place}
@@ -45,7 +45,7 @@ place_here f o n more e = ap (λ p. option_or (option_map f p) (first_cause more
 pub place_later : (f : ℕ → Refusal) (o : Option ℕ) (more : List (Option Refusal)) → o ≡ None → first_cause (option_map f o ∷ more) ≡ first_cause more
 place_later f o more e = ap (λ p. option_or (option_map f p) (first_cause more)) e
 
-none_first : {X : Type 0} (test : X → Bool) (xs : List X) → All (λ x. test x ≡ false) xs → first_place test xs ≡ None
+none_first : {X : Type 0} (test : X → Bool) (xs : List X) → AllByRecursion (λ x. test x ≡ false) xs → first_place test xs ≡ None
 none_first test [] alls = refl
 none_first test (x ∷ xs) alls =
     ap (λ v. cond v (Some 0) (option_map suc (first_place test xs))) alls.0 ∙ ap (option_map suc) (none_first test xs alls.1)

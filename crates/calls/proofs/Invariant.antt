@@ -3,12 +3,12 @@
 use Rattle.std.proofs.Common.{◌≡◌, ℕ, ◌<◌, ◌≤◌, Bool, true, false, ◌||◌, ◌⊎◌, List, [], ◌∷◌, length, is_some, Some, None, Option, sym, refl, zero-le}
 use mathlib.Core.Bool.{false≢true}
 use Rattle.std.specs.Option.{option_map}
-use Rattle.std.specs.List.{slice_get, AllByRecursion as All}
+use Rattle.std.specs.List.{slice_get, AllByRecursion}
 use Rattle.rule.specs.declared.Rule.{Rule}
 use Rattle.store.specs.declared.Entry.{Entry}
 use Rattle.store.specs.declared.Entry.TheVariants.{Intact}
 use Rattle.law.specs.Operations.{latest, wrote, has_read, touched}
-use Rattle.law.specs.Changes.{Key, Change, Clash, earlier, same_key, pending as is-pending-change}
+use Rattle.law.specs.Changes.{Key, Change, Clash, earlier, same_key, pending as is_pending_change}
 use Rattle.law.specs.Orders.{Pairwise}
 use Rattle.law.specs.Accounts.{Draft, Replacing, Account, pending_of, replaced_since, nothing_yet}
 use Rattle.law.proofs.Runs.{Right, AllRight, held_after}
@@ -69,12 +69,12 @@ WorkIn b a t p = WorkOk b.entries p.desk (a.drafts t) (has_pending t a.accepted)
 pub record ChangeOk (n : ℕ) (works : ℕ → Work) (c : Change Rule) : Type 0 where
   pub written_read : (x : ℕ) → wrote c.ops x ≡ true → has_read c.ops x ≡ true
   pub inside : (x : ℕ) → has_read c.ops x ≡ true → x < n
-  pub mine : is-pending-change c ≡ true → ((works c.session).phase ≡ pending) × ((x : ℕ) → (works c.session).staged x ≡ latest c.ops x)
+  pub mine : is_pending_change c ≡ true → ((works c.session).phase ≡ pending) × ((x : ℕ) → (works c.session).staged x ≡ latest c.ops x)
 
 -- two accepted changes, the former before the latter
 pub record Between (b c : Change Rule) : Type 0 where
   pub apart : same_key b.key c.key ≡ false
-  pub clear : is-pending-change b ≡ true → (x : ℕ) → wrote b.ops x ≡ true → touched c.ops x ≡ false
+  pub clear : is_pending_change b ≡ true → (x : ℕ) → wrote b.ops x ≡ true → touched c.ops x ≡ false
   pub rising : Clash b c → earlier b.key c.key ≡ true
 
 -- a change and its entry in the queue
@@ -83,19 +83,19 @@ pub record Matches (c : Change Rule) (q : Queued) : Type 0 where
   pub session : q.session ≡ c.session
   pub reads : (x : ℕ) → q.read x ≡ has_read c.ops x
   pub writes : (x : ℕ) → q.written x ≡ wrote c.ops x
-  pub waits : q.pending ≡ is-pending-change c
+  pub waits : q.pending ≡ is_pending_change c
 
 -- an accepted change is in the queue, or was committed and is not after the threshold
 abbrev pub Known : List Queued → Option Key → Change Rule → Type 0
-Known queue threshold c = ((is-pending-change c ≡ false) × (not_after threshold c.key ≡ true)) ⊎ Any (Matches c) queue
+Known queue threshold c = ((is_pending_change c ≡ false) × (not_after threshold c.key ≡ true)) ⊎ Any (Matches c) queue
 
 pub record Inv (first : List Entry) (b : State) (a : Account Rule) : Type 0 where
   pub size : length b.entries ≡ length first
   pub chain : Pairwise Between a.accepted
   pub right : AllRight Intact (slice_get first) a.accepted
   pub holds : (x : ℕ) → slice_get b.entries x ≡ held_after Intact (slice_get first) a.accepted x
-  pub changes : All (ChangeOk (length first) (λ t. (b.sessions t).work)) a.accepted
-  pub known : All (Known b.queue b.threshold) a.accepted
+  pub changes : AllByRecursion (ChangeOk (length first) (λ t. (b.sessions t).work)) a.accepted
+  pub known : AllByRecursion (Known b.queue b.threshold) a.accepted
   pub desks : (t : ℕ) → DeskIn first b a t (b.sessions t).desk
   pub works : (t : ℕ) → WorkIn b a t (b.sessions t)
   pub places : Places a

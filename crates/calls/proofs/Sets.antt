@@ -1,7 +1,7 @@
 -- What the lowest slot, the meeting of sets and the first place tell. Assumes nothing.
 use Rattle.std.proofs.Common.{◌≡◌, ℕ, zero, suc, ◌<◌, Bool, true, false, cond, ◌&&◌, List, [], ◌∷◌, is_some, Some, None, Option, sym, refl, ap, ◌∙◌, ⊎_elim, arith}
 use Rattle.std.specs.Option.{option_map, option_or}
-use Rattle.std.specs.List.{AllByRecursion as All}
+use Rattle.std.specs.List.{AllByRecursion}
 use Rattle.std.proofs.lemmas.Bool.{cases_lt, both_ways, and_from}
 use Rattle.calls.specs.Sets.{lowest, any_below, meets, first_place}
 use Rattle.calls.proofs.Tools.{clear_head, mapped_none, none_is, some_none}
@@ -47,11 +47,11 @@ below_any n f x lt e = go (lowest n f) refl
 pub apart : (n : ℕ) (f g : ℕ → Bool) → meets n f g ≡ false → (x : ℕ) → x < n → f x ≡ true → g x ≡ true → ⊥
 apart n f g e x lt p q = both_ways (f x && g x) (lowest_none n (λ y. f y && g y) (none_is _ e) x lt) (and_from _ _ p q)
 
-pub no_first : {X : Type 0} (test : X → Bool) (xs : List X) → first_place test xs ≡ None → All (λ x. test x ≡ false) xs
+pub no_first : {X : Type 0} (test : X → Bool) (xs : List X) → first_place test xs ≡ None → AllByRecursion (λ x. test x ≡ false) xs
 no_first test [] e = tt
 no_first test (x ∷ xs) e = go (λ d. no_first test xs d) (test x) refl e
   where
-    go : (first_place test xs ≡ None → All (λ y. test y ≡ false) xs) → (v : Bool) → test x ≡ v
-        → cond v (Some 0) (option_map suc (first_place test xs)) ≡ None → (test x ≡ false) × All (λ y. test y ≡ false) xs
+    go : (first_place test xs ≡ None → AllByRecursion (λ y. test y ≡ false) xs) → (v : Bool) → test x ≡ v
+        → cond v (Some 0) (option_map suc (first_place test xs)) ≡ None → (test x ≡ false) × AllByRecursion (λ y. test y ≡ false) xs
     go rec true q d = absurd (some_none _ d)
     go rec false q d = (q, rec (mapped_none suc (first_place test xs) d))

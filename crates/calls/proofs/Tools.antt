@@ -2,7 +2,7 @@
 use Rattle.std.proofs.Common.{◌≡◌, ℕ, Bool, true, false, cond, eqb, ◌⊎◌, List, [], ◌∷◌, ◌++◌, map, is_some, Some, None, filter, Option, sym, refl, ap, subst, inl, inr, true≢false, arith}
 use mathlib.Core.Bool.{false≢true}
 use Rattle.std.specs.Option.{option_map, option_or}
-use Rattle.std.specs.List.{AllByRecursion as All}
+use Rattle.std.specs.List.{AllByRecursion}
 use Rattle.std.proofs.lemmas.Bool.{eqb-true, eqb-false, eq-eqb, ne_eqb, cond_both, both_ways}
 use Rattle.refusal.specs.declared.Refusal.{Refusal}
 use Rattle.law.specs.Accounts.{changed}
@@ -99,7 +99,7 @@ module _ {X : Type 0} where
   any_weaker P Q g (x ∷ xs) (inr h) = inr (any_weaker P Q g xs h)
 
   -- what holds of all holds of the one
-  pub all_any : {C : Type 0} (P Q : X → Type 0) → ((x : X) → P x → Q x → C) → (xs : List X) → All P xs → Any Q xs → C
+  pub all_any : {C : Type 0} (P Q : X → Type 0) → ((x : X) → P x → Q x → C) → (xs : List X) → AllByRecursion P xs → Any Q xs → C
   all_any P Q f [] alls h = absurd h
   all_any P Q f (x ∷ xs) alls (inl q) = f x alls.0 q
   all_any P Q f (x ∷ xs) alls (inr h) = all_any P Q f xs alls.1 h

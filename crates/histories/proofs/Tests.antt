@@ -1,6 +1,6 @@
 -- Tests that every lawful history passes, so that one that fails a test is not lawful. Assumes nothing.
 use Rattle.std.proofs.Common.{◌≡◌, ℕ, zero, suc, ◌<◌, Bool, true, false, not, ◌&&◌, eqb, List, [], ◌∷◌, set, Some, None, Option, sym, refl, ap, ◌∙◌, arith}
-use Rattle.std.specs.List.{slice_get, flat_map, AllByRecursion as All}
+use Rattle.std.specs.List.{slice_get, flat_map, AllByRecursion}
 use Rattle.std.proofs.lemmas.Bool.{and_from, both_ways, eq-eqb}
 use Rattle.rule.specs.declared.Rule.{Rule}
 use Rattle.store.specs.declared.Entry.{Entry}
@@ -57,7 +57,7 @@ abbrev ascends : List (Change Rule) → Bool
 ascends [] = true
 ascends (c ∷ cs) = all_earlier c cs && ascends cs
 
-earlier_all : (c : Change Rule) (bs : List (Change Rule)) → All (λ b. earlier_stamp b c ≡ true) bs → all_earlier c bs ≡ true
+earlier_all : (c : Change Rule) (bs : List (Change Rule)) → AllByRecursion (λ b. earlier_stamp b c ≡ true) bs → all_earlier c bs ≡ true
 earlier_all c [] alls = refl
 earlier_all c (b ∷ bs) alls = and_from _ _ alls.0 (earlier_all c bs alls.1)
 

@@ -8,7 +8,7 @@ ghost use Rattle.std.specs.Prelude.{◌≡◌, length, IfOk, Ok, Err, MatchResul
 ghost use Rattle.block.specs.Memory.{block_entries};
 ghost use Rattle.image.specs.Image.{image_count, image_check};
 
-use block::store::BlockStore;
+use block::block_store::BlockStore;
 use refusal::{Damage, Fault, Refusal};
 
 // How many slots the image has.

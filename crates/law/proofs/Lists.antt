@@ -1,15 +1,15 @@
 -- What holds of each element, or of every two, of a list that is filtered or mapped. Assumes nothing.
 use Rattle.std.proofs.Common.{◌≡◌, Bool, true, List, [], ◌∷◌, map, filter}
-use Rattle.std.specs.List.{AllByRecursion as All}
+use Rattle.std.specs.List.{AllByRecursion}
 use Rattle.std.proofs.lemmas.Bool.{cond_both}
 use Rattle.std.proofs.ByRecursion.{All-map, All-weaker, all_kept_by}
 use Rattle.law.specs.Orders.{Pairwise}
 
 module _ {X : Type 0} (P Q : X → Type 0) (test : X → Bool) where
-  pub all_kept : ((x : X) → test x ≡ true → P x → Q x) → (xs : List X) → All P xs → All Q (filter test xs)
+  pub all_kept : ((x : X) → test x ≡ true → P x → Q x) → (xs : List X) → AllByRecursion P xs → AllByRecursion Q (filter test xs)
   all_kept f [] alls = tt
   all_kept f (x ∷ xs) alls =
-      cond_both (test x) (x ∷ filter test xs) (filter test xs) (All Q) (λ t. (f x t alls.0, all_kept f xs alls.1))
+      cond_both (test x) (x ∷ filter test xs) (filter test xs) (AllByRecursion Q) (λ t. (f x t alls.0, all_kept f xs alls.1))
       (λ _. all_kept f xs alls.1)
 
 module _ {X : Type 0} (B : X → X → Type 0) (test : X → Bool) where

@@ -2,7 +2,7 @@
 -- is accepted before it is committed. Assumes nothing.
 use Rattle.std.proofs.Common.{◌≡◌, ℕ, suc, ◌<◌, ◌≤◌, Bool, true, false, cond, not, eqb, List, [], ◌∷◌, map, is_some, Some, None, Option, sym, refl, ap, arith}
 use Rattle.std.specs.Option.{option_map}
-use Rattle.std.specs.List.{AllByRecursion as All}
+use Rattle.std.specs.List.{AllByRecursion}
 use Rattle.std.proofs.lemmas.Bool.{cond_both}
 use Rattle.std.proofs.ByRecursion.{All-map, All-weaker, all_kept_by}
 use Rattle.law.specs.Operations.{Operation}
@@ -42,13 +42,13 @@ abbrev pub BeganFirst : {R : Type 0} → Change R → Change R → Type 0
 BeganFirst b c = (p : ℕ) → c.committed ≡ Some p → b.began ≤ p
 
 pub record Places {R : Type 0} (a : Account R) : Type 0 where
-  pub logged : All (λ (e : Replacing). e.place < a.place) a.replacings
+  pub logged : AllByRecursion (λ (e : Replacing). e.place < a.place) a.replacings
   pub took : (s x p : ℕ) → a.taken s x ≡ Some p → p < a.place
   pub drafted : (s : ℕ) (d : Draft R) → a.drafts s ≡ Some d → d.began < a.place
-  pub begun : All (λ (c : Change R). c.began < a.place) a.accepted
+  pub begun : AllByRecursion (λ (c : Change R). c.began < a.place) a.accepted
   pub ordered : Pairwise BeganFirst a.accepted
 
-later_log : (n : ℕ) (es : List Replacing) → All (λ (e : Replacing). e.place < n) es → All (λ (e : Replacing). e.place < suc n) es
+later_log : (n : ℕ) (es : List Replacing) → AllByRecursion (λ (e : Replacing). e.place < n) es → AllByRecursion (λ (e : Replacing). e.place < suc n) es
 later_log n es alls = All-weaker (λ (e : Replacing). e.place < n) (λ (e : Replacing). e.place < suc n) (λ e lt. omega arith) es alls
 
 same_some : (p q : ℕ) → Some p ≡ Some q → p ≡ q
@@ -58,7 +58,7 @@ none_some : (q : ℕ) → None ≡ Some q → ⊥
 none_some q e = let z : ◌≡◌ {A = ℕ} 0 1 = cc in omega arith
 
 module _ {R : Type 0} where
-  later_begun : (n : ℕ) (cs : List (Change R)) → All (λ (c : Change R). c.began < n) cs → All (λ (c : Change R). c.began < suc n) cs
+  later_begun : (n : ℕ) (cs : List (Change R)) → AllByRecursion (λ (c : Change R). c.began < n) cs → AllByRecursion (λ (c : Change R). c.began < suc n) cs
   later_begun n cs alls = All-weaker (λ (c : Change R). c.began < n) (λ (c : Change R). c.began < suc n) (λ e lt. omega arith) cs alls
 
   -- a draft gets one more operation
@@ -97,7 +97,7 @@ module _ {R : Type 0} where
         (λ _ e. absurd (let z : ◌≡◌ {A = ℕ} 0 1 = cc in omega arith)) (λ _ e. drafted-later t d e)
 
     joined-begun : (s : ℕ) (k : Key) (o : Option (Draft R)) → ((d : Draft R) → o ≡ Some d → d.began < a.place)
-        → All (λ (c : Change R). c.began < suc a.place) (joined_by a.accepted s k o)
+        → AllByRecursion (λ (c : Change R). c.began < suc a.place) (joined_by a.accepted s k o)
     joined-begun s k None f = later_begun a.place a.accepted places.begun
     joined-begun s k (Some d) f = (let h = f d refl in omega arith, later_begun a.place a.accepted places.begun)
 
@@ -110,7 +110,7 @@ module _ {R : Type 0} where
     )
 
     -- committing at this place
-    commit-ordered : (s : ℕ) (cs : List (Change R)) → All (λ (c : Change R). c.began < a.place) cs → Pairwise BeganFirst cs
+    commit-ordered : (s : ℕ) (cs : List (Change R)) → AllByRecursion (λ (c : Change R). c.began < a.place) cs → Pairwise BeganFirst cs
         → Pairwise BeganFirst (map (commit_at s a.place) cs)
     commit-ordered s [] begun pairs = tt
     commit-ordered s (c ∷ cs) begun pairs = (
@@ -124,8 +124,8 @@ module _ {R : Type 0} where
         one b lt first true p e = let q = same_some a.place p e in omega arith
         one b lt first false p e = first p e
 
-        go : (bs : List (Change R)) → All (λ (b : Change R). b.began < a.place) bs → All (λ b. BeganFirst b c) bs
-            → All (λ (b : Change R). BeganFirst (commit_at s a.place b) (commit_at s a.place c)) bs
+        go : (bs : List (Change R)) → AllByRecursion (λ (b : Change R). b.began < a.place) bs → AllByRecursion (λ b. BeganFirst b c) bs
+            → AllByRecursion (λ (b : Change R). BeganFirst (commit_at s a.place b) (commit_at s a.place c)) bs
         go [] x y = tt
         go (b ∷ bs) x y = (one b x.0 y.0 (pending_of s c), go bs x.1 y.1)
 

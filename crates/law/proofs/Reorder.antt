@@ -1,6 +1,6 @@
 -- The law of reordering: operations that do not meet may change places, hence changes that do not clash, hence all that stands in between. Assumes nothing.
 use Rattle.std.proofs.Common.{◌≡◌, ℕ, zero, suc, ◌<◌, Bool, true, false, ◌&&◌, ◌||◌, eqb, List, [], ◌∷◌, ◌++◌, length, set, is_some, Some, sym, refl, ap, ◌∙◌, subst, ⊎_elim, length-set}
-use Rattle.std.specs.List.{slice_get, flat_map, AllByRecursion as All}
+use Rattle.std.specs.List.{slice_get, flat_map, AllByRecursion}
 use Rattle.std.proofs.lemmas.List.{set_comm}
 use Rattle.std.proofs.lemmas.Bool.{eq-eqb, or_left, or_right, or_cases, and_from, cond-true, cond_both}
 use Rattle.law.specs.Operations.{Operation, reading, writing, Serial, then_reading, then_writing, latest, wrote, has_read, touched}
@@ -43,14 +43,14 @@ module _ {R E : Type 0} (intact : R → E) (first : List E) where
       (subst (λ n. y < n) (sym (length-set mid x (intact r))) below)
       (e ∙ ap (λ l. set l x (intact r)) d ∙ set_comm mid y x (intact s) (intact r) (λ q. ne (sym q)))
 
-  past : (p : Operation R) (bs ops : List (Operation R)) (last : List E) → All (Apart p) bs → Serial intact first (p ∷ (bs ++ ops)) last
+  past : (p : Operation R) (bs ops : List (Operation R)) (last : List E) → AllByRecursion (Apart p) bs → Serial intact first (p ∷ (bs ++ ops)) last
       → Serial intact first (bs ++ p ∷ ops) last
   past p [] ops last aparts run = run
   past p (b ∷ bs) ops last aparts run =
       under b (p ∷ (bs ++ ops)) (bs ++ p ∷ ops) last (λ mid s. past p bs ops mid aparts.1 s) (swap p b (bs ++ ops) last aparts.0 run)
 
   -- operations that meet none of others may go behind them
-  pub all_past : (os bs ops : List (Operation R)) (last : List E) → All (λ p. All (Apart p) bs) os → Serial intact first (os ++ (bs ++ ops)) last
+  pub all_past : (os bs ops : List (Operation R)) (last : List E) → AllByRecursion (λ p. AllByRecursion (Apart p) bs) os → Serial intact first (os ++ (bs ++ ops)) last
       → Serial intact first (bs ++ (os ++ ops)) last
   all_past [] bs ops last aparts run = run
   all_past (p ∷ os) bs ops last aparts run =
@@ -80,13 +80,13 @@ module _ {R : Type 0} where
   touched_more (writing y r) ops x t =
       ⊎_elim (λ h. or_left _ _ h) (λ w. or_right (has_read ops x) _ (wrote_more (writing y r) ops x w)) (or_cases _ _ t)
 
-  apart_reading : (x : ℕ) (r : R) (bs : List (Operation R)) → (wrote bs x ≡ true → ⊥) → All (Apart (reading x r)) bs
+  apart_reading : (x : ℕ) (r : R) (bs : List (Operation R)) → (wrote bs x ≡ true → ⊥) → AllByRecursion (Apart (reading x r)) bs
   apart_reading x r [] no_write = tt
   apart_reading x r (reading y s ∷ bs) no_write = (tt, apart_reading x r bs no_write)
   apart_reading x r (writing y s ∷ bs) no_write =
       (λ q. no_write (wrote_here x y s bs q), apart_reading x r bs (λ w. no_write (wrote_more (writing y s) bs x w)))
 
-  apart_writing : (x : ℕ) (r : R) (bs : List (Operation R)) → (touched bs x ≡ true → ⊥) → All (Apart (writing x r)) bs
+  apart_writing : (x : ℕ) (r : R) (bs : List (Operation R)) → (touched bs x ≡ true → ⊥) → AllByRecursion (Apart (writing x r)) bs
   apart_writing x r [] untouched = tt
   apart_writing x r (reading y s ∷ bs) untouched =
       (λ q. untouched (touched_here x y s bs (sym q)), apart_writing x r bs (λ t. untouched (touched_more (reading y s) bs x t)))
@@ -95,7 +95,7 @@ module _ {R : Type 0} where
 
   -- operations none of which writes what the others touch
   all_apart : (os bs : List (Operation R)) → ((x : ℕ) → wrote os x ≡ true → touched bs x ≡ true → ⊥)
-      → ((x : ℕ) → touched os x ≡ true → wrote bs x ≡ true → ⊥) → All (λ p. All (Apart p) bs) os
+      → ((x : ℕ) → touched os x ≡ true → wrote bs x ≡ true → ⊥) → AllByRecursion (λ p. AllByRecursion (Apart p) bs) os
   all_apart [] bs h k = tt
   all_apart (reading x r ∷ os) bs h k =
       (apart_reading x r bs (k x (touched_here x x r os refl)), all_apart os bs h (λ y t. k y (touched_more (reading x r) os y t)))
@@ -129,23 +129,23 @@ module _ {R : Type 0} where
 
 -- a change, put in, stands before those in front of it
 module _ {R : Type 0} (before : Change R → Change R → Bool) {a : Change R} where
-  stands : {rest whole : List (Change R)} (b : Change R) → Insertion a rest whole → All (λ c. Clash c b → before c b ≡ true) whole → Clash a b
+  stands : {rest whole : List (Change R)} (b : Change R) → Insertion a rest whole → AllByRecursion (λ c. Clash c b → before c b ≡ true) whole → Clash a b
       → before a b ≡ true
   stands b here alls c = alls.0 c
   stands b (behind i) alls c = stands b i alls.1 c
 
 -- what holds of all but one, and of that one
 module _ {R : Type 0} (P : Change R → Type 0) where
-  all_rest : {a : Change R} {rest whole : List (Change R)} → Insertion a rest whole → All P whole → All P rest
+  all_rest : {a : Change R} {rest whole : List (Change R)} → Insertion a rest whole → AllByRecursion P whole → AllByRecursion P rest
   all_rest here alls = alls.1
   all_rest (behind i) alls = (alls.0, all_rest i alls.1)
 
-  pub all_whole : {a : Change R} {rest whole : List (Change R)} → Insertion a rest whole → P a → All P rest → All P whole
+  pub all_whole : {a : Change R} {rest whole : List (Change R)} → Insertion a rest whole → P a → AllByRecursion P rest → AllByRecursion P whole
   all_whole here p alls = (p, alls)
   all_whole (behind i) p alls = (alls.0, all_whole i p alls.1)
 
   -- what holds of all holds of them in another order
-  pub all_reordered : {xs ys : List (Change R)} → Reordering xs ys → All P xs → All P ys
+  pub all_reordered : {xs ys : List (Change R)} → Reordering xs ys → AllByRecursion P xs → AllByRecursion P ys
   all_reordered empty alls = tt
   all_reordered (put_in o i) alls = all_whole i alls.0 (all_reordered o alls.1)
 
@@ -167,7 +167,7 @@ module _ {R E : Type 0} (intact : R → E) (first : List E) where
 
   -- a change may go behind those that it does not clash with
   inserted : (before : Change R → Change R → Bool) → ((a b : Change R) → before a b ≡ true → before b a ≡ true → ⊥)
-      → {a : Change R} {rest whole : List (Change R)} → Insertion a rest whole → All (λ b. Clash b a → before b a ≡ true) rest → Fits before whole
+      → {a : Change R} {rest whole : List (Change R)} → Insertion a rest whole → AllByRecursion (λ b. Clash b a → before b a ≡ true) rest → Fits before whole
       → (last : List E) → Explains intact first (a ∷ rest) last → Explains intact first whole last
   inserted before never here alls fits last run = run
   inserted before never {a} (behind {b = b} {rest = rest} {whole = whole} i) alls fits last run =

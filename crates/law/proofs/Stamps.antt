@@ -1,6 +1,6 @@
 -- The order of stamps: keys are in a strict order, and sorting by them gives the one ascending order. Assumes nothing.
 use Rattle.std.proofs.Common.{◌≡◌, true, false, List, [], ◌∷◌, sym, ◌∙◌, true≢false, arith}
-use Rattle.std.specs.List.{AllByRecursion as All}
+use Rattle.std.specs.List.{AllByRecursion}
 use Rattle.std.proofs.ByRecursion.{All-weaker}
 use Rattle.std.proofs.lemmas.Bool.{cond_both}
 use Rattle.std.proofs.lemmas.Bool.Decides.{nat_tests}
@@ -36,7 +36,7 @@ module _ {R : Type 0} where
   stamp_order_reorders [] = empty
   stamp_order_reorders (c ∷ cs) = put_in (stamp_order_reorders cs) (into_inserts c (in_stamp_order cs))
 
-  into_ascends : (c : Change R) (ds : List (Change R)) → All (λ b. same_key b.key c.key ≡ false) ds → Ascending ds
+  into_ascends : (c : Change R) (ds : List (Change R)) → AllByRecursion (λ b. same_key b.key c.key ≡ false) ds → Ascending ds
       → Ascending (by_stamp_into c ds)
   into_ascends c [] apart up = (tt, tt)
   into_ascends c (d ∷ ds) apart up =

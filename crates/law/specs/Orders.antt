@@ -1,6 +1,6 @@
 -- Orders of changes: reorderings, orders that fit a relation, the order of stamps. The latest stands in front. Assumes nothing.
 use Rattle.std.specs.Prelude.{◌≡◌, ℕ, Bool, true, cond, List, [], ◌∷◌, Some, Option, ◌≢◌}
-use Rattle.std.specs.List.{AllByRecursion as All}
+use Rattle.std.specs.List.{AllByRecursion}
 use Rattle.law.specs.Changes.{Change, Clash, Explains, earlier}
 
 -- `whole` is `rest` with a put in at some place
@@ -16,7 +16,7 @@ pub data Reordering {X : Type 0} : List X → List X → Type 0 where
 -- of every two in the list, the one that stands before the other is related to it
 abbrev pub Pairwise : {X : Type 0} → (X → X → Type 0) → List X → Type 0
 Pairwise before [] = Unit {0}
-Pairwise before (c ∷ cs) = All (λ b. before b c) cs × Pairwise before cs
+Pairwise before (c ∷ cs) = AllByRecursion (λ b. before b c) cs × Pairwise before cs
 
 module _ {R : Type 0} where
   -- of two clashing changes in the list, the one that stands before the other is before it in this sense

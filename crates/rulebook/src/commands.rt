@@ -1,8 +1,8 @@
 // What can be asked for on the command line.
 use crate::failure::{Failure, Usage};
 use crate::files::{load, save};
+use block::block_store::memory_size;
 use block::memory;
-use block::store::memory_size;
 use rule::Rule;
 use store::{Reading, Storing};
 

@@ -1,6 +1,6 @@
 // Image files: read whole, and replaced whole.
 use crate::failure::{Failure, Tried, file_failure};
-use block::store::BlockStore;
+use block::block_store::BlockStore;
 use std::fs::File;
 use std::io::Write;
 use std::path::Path;

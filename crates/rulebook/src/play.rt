@@ -4,7 +4,7 @@ use crate::failure::{Failure, Tried, file_failure};
 use crate::files::{load, save};
 use crate::lines::{INPUT, next_line, write_out};
 use answer::AnswerLine;
-use block::store::BlockStore;
+use block::block_store::BlockStore;
 use book::Book;
 use protocol::Answer;
 use rule::Rule;

@@ -1,7 +1,7 @@
 // The whole task in memory: a store is formatted, written, read and damaged.
 use crate::failure::Failure;
+use block::block_store::{BlockStore, memory_size};
 use block::memory;
-use block::store::{BlockStore, memory_size};
 use rule::Rule;
 use store::{Reading, Storing};
 

@@ -1,7 +1,7 @@
 -- What does not stand in a text. Assumes nothing.
 use Rattle.std.specs.Prelude.{◌≡◌, ℕ, List, ◌≢◌}
-use Rattle.std.specs.List.{AllByRecursion as All}
+use Rattle.std.specs.List.{AllByRecursion}
 
 -- no byte of the text is a space
 abbrev pub Unspaced : List ℕ → Type 0
-Unspaced bs = All (λ b. b ≢ 32) bs
+Unspaced bs = AllByRecursion (λ b. b ≢ 32) bs

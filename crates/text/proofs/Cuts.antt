@@ -3,13 +3,13 @@ use Rattle.std.proofs.Common.{◌≡◌, ℕ, ◌+◌, ◌-◌, ◌<◌, Bool, t
 use native.Mathlib.Nat.{sub-zero}
 use Rattle.std.proofs.lemmas.List.{drop_more, take_rest}
 use Rattle.std.specs.Option.{option_map}
-use Rattle.std.specs.List.{AllByRecursion as All}
+use Rattle.std.specs.List.{AllByRecursion}
 use Rattle.std.proofs.lemmas.Bool.{eqb-true, eqb-false, eq-eqb, ne_eqb}
 use Rattle.text.specs.Cutting.{split}
 
 -- the byte c stands nowhere in the text
 abbrev pub Lacks : ℕ → List ℕ → Type 0
-Lacks c bs = All (λ b. b ≡ c → ⊥) bs
+Lacks c bs = AllByRecursion (λ b. b ≡ c → ⊥) bs
 
 pub split_none : (c : ℕ) (bs : List ℕ) → Lacks c bs → split c bs ≡ None
 split_none c [] h = refl

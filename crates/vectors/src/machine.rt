@@ -1,8 +1,8 @@
 // The state that the commands work on: a memory of blocks with its count, and the rows of a table.
 use crate::hex;
 use crate::words::{number, parts};
+use block::block_store::{BlockStore, check};
 use block::memory::format;
-use block::store::{BlockStore, check};
 use refusal::Refusal;
 use rule::{Parts, Rule};
 use std::alloc::{AllocError, Global};

@@ -5,7 +5,7 @@ use Rattle.std.proofs.lemmas.Bool.{both_ways, not-true, eq-eqb, and_from}
 use Rattle.rule.specs.declared.Rule.{Rule}
 use Rattle.store.specs.declared.Entry.{Entry}
 use Rattle.law.specs.Operations.{latest}
-use Rattle.law.specs.Changes.{Change, pending as is-pending-change}
+use Rattle.law.specs.Changes.{Change, pending as is_pending_change}
 use Rattle.law.specs.Accounts.{Account, changed, pending_of, strikes}
 use Rattle.law.specs.Accounts.{after as then}
 use Rattle.law.proofs.Lists.{all_kept, pairs_kept}
@@ -18,7 +18,7 @@ use Rattle.calls.specs.Effects.{effect, aborted, own_pending}
 use Rattle.calls.proofs.kept.Desks.{has_weaker}
 use Rattle.calls.proofs.kept.Strikes.{without, struck_holds, struck_right, struck_has}
 
-other_session : (s : ℕ) (c : Change Rule) → not (pending_of s c) ≡ true → is-pending-change c ≡ true → c.session ≡ s → ⊥
+other_session : (s : ℕ) (c : Change Rule) → not (pending_of s c) ≡ true → is_pending_change c ≡ true → c.session ≡ s → ⊥
 other_session s c e p q = both_ways (pending_of s c) (not-true _ e) (and_from _ _ p (eq-eqb _ _ q))
 
 pub abort_ok : (first : List Entry) (b : State) (a : Account Rule) (s : ℕ) → Inv first b a → Inv first (effect b (abort s)) (then (strikes s) a)
@@ -42,7 +42,7 @@ abort_ok first b a s inv = record {
       (λ c e. ⊎_elim (λ f. inl f)
       (λ h. inr
       (any_kept (Matches c) (λ q. not (own_pending s q))
-      (λ q m. ap not (ap (λ v. v && eqb q.session s) m.waits ∙ ap (λ z. is-pending-change c && eqb z s) m.session) ∙ e)
+      (λ q m. ap not (ap (λ v. v && eqb q.session s) m.waits ∙ ap (λ z. is_pending_change c && eqb z s) m.session) ∙ e)
       b.queue h)))
       a.accepted inv.known;
   desks = changed_keeps (λ t p. DeskIn first b a t p.desk) s aborted b.sessions inv.desks (λ ok. ok);

@@ -1,7 +1,7 @@
 -- A commit keeps the invariant, and is never refused by its store. Assumes nothing.
 use Rattle.std.proofs.Common.{◌≡◌, ℕ, suc, ◌<◌, ◌≤◌, Bool, true, false, cond, not, ◌&&◌, ◌||◌, eqb, ltb, List, ◌∷◌, map, length, is_some, Some, None, Option, sym, refl, ap, ◌∙◌, subst, inl, inr, ⊎_elim, arith}
 use Rattle.std.specs.Option.{option_or}
-use Rattle.std.specs.List.{slice_get, AllByRecursion as All}
+use Rattle.std.specs.List.{slice_get, AllByRecursion}
 use Rattle.std.proofs.lemmas.Bool.{cond_both, both_ways, lt-ltb, eq-eqb, ne_eqb, and_from, and_parts, and_left, cases_Bool, cond-true, cond-false}
 use Rattle.std.proofs.ByRecursion.{All-weaker, All-map}
 use Rattle.rule.specs.declared.Rule.{Rule}
@@ -50,7 +50,7 @@ module _ (n : ℕ) (before after' : List Entry) (number raised : ℕ) (log : Lis
     (grows : number ≤ raised) where
   -- the committing session
   own_desk : (taken : ℕ → Option ℕ) (d : Desk) → ((x : ℕ) → is_some (staged x) ≡ true → d.notices x ≡ None)
-      → ((x : ℕ) → is_some (staged x) ≡ true → x < n) → All (λ (e : Replacing). e.place < p) log
+      → ((x : ℕ) → is_some (staged x) ≡ true → x < n) → AllByRecursion (λ (e : Replacing). e.place < p) log
       → DeskOk n before number log s taken d
       → DeskOk n after' raised (noted s p slots log) s (λ x. cond (slots x) (Some p) (taken x))
       (record { copies = λ x. option_or (staged x) (d.copies x); notices = d.notices; learnt = d.learnt })
@@ -188,7 +188,7 @@ module _ (first : List Entry) (b : State) (a : Account Rule) (s : ℕ) (inv : In
   staged_inside : (x : ℕ) → is_some (staged_by b a s x) ≡ true → x < count b
   staged_inside x e = inside b.entries x (ap is_some (store_sound x e).1)
 
-  mine_of : (t : ℕ) → All (Mine t (b.sessions t).work.staged) a.accepted
+  mine_of : (t : ℕ) → AllByRecursion (Mine t (b.sessions t).work.staged) a.accepted
   mine_of t = all_mine (length first) (λ u. (b.sessions u).work) t a.accepted inv.changes
 
   store_after : (x : ℕ) → slice_get (entries_now b a s) x ≡ over Intact (staged_by b a s x) (slice_get b.entries x)

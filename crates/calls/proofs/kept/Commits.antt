@@ -2,7 +2,7 @@
 use Rattle.std.proofs.Common.{◌≡◌, ℕ, zero, suc, ◌<◌, Bool, true, false, cond, not, ◌&&◌, ◌||◌, eqb, ltb, List, [], ◌∷◌, map, length, set, is_some, is_ok, Some, None, Option, sym, refl, ap, ◌∙◌, ⊎_elim, zero-le, arith, length-set}
 use mathlib.Core.Bool.{false≢true}
 use Rattle.std.specs.Option.{option_or}
-use Rattle.std.specs.List.{slice_get, AllByRecursion as All}
+use Rattle.std.specs.List.{slice_get, AllByRecursion}
 use Rattle.std.proofs.lemmas.Bool.{cond_both, both_ways, ltb-true, le-ltb, lt-ltb, eqb-true, ne_eqb, or_left, or_right, or_cases, and_from, and_parts, and_right, cases_lt}
 use Rattle.std.proofs.ByRecursion.{All-weaker}
 use Rattle.rule.specs.declared.Rule.{Rule}
@@ -10,7 +10,7 @@ use Rattle.store.specs.declared.Entry.{Entry}
 use Rattle.store.specs.declared.Entry.TheVariants.{Intact}
 use Rattle.store.specs.Entries.{got, answer_at, put_into}
 use Rattle.law.specs.Operations.{latest, wrote, has_read, touched}
-use Rattle.law.specs.Changes.{Change, pending as is-pending-change}
+use Rattle.law.specs.Changes.{Change, pending as is_pending_change}
 use Rattle.law.specs.Orders.{Pairwise}
 use Rattle.law.specs.Accounts.{pending_of, commit_at, replaced_by}
 use Rattle.law.proofs.Runs.{AllRight, held_after, right_local, over, written_if, nth_set, inside}
@@ -27,10 +27,10 @@ use Rattle.calls.proofs.kept.Strikes.{pending_none}
 abbrev pub Mine : ℕ → (ℕ → Option Rule) → Change Rule → Type 0
 Mine s staged c = pending_of s c ≡ true → (x : ℕ) → staged x ≡ latest c.ops x
 
-pub all_mine : (n : ℕ) (works : ℕ → Work) (s : ℕ) (cs : List (Change Rule)) → All (ChangeOk n works) cs → All (Mine s (works s).staged) cs
+pub all_mine : (n : ℕ) (works : ℕ → Work) (s : ℕ) (cs : List (Change Rule)) → AllByRecursion (ChangeOk n works) cs → AllByRecursion (Mine s (works s).staged) cs
 all_mine n works s cs alls =
     All-weaker (ChangeOk n works) (Mine s (works s).staged)
-    (λ c ok p x. let parts = and_parts (is-pending-change c) _ p in ap (λ z. (works z).staged x) (sym (eqb-true _ _ parts.1))
+    (λ c ok p x. let parts = and_parts (is_pending_change c) _ p in ap (λ z. (works z).staged x) (sym (eqb-true _ _ parts.1))
     ∙ (ok.mine parts.0).1 x) cs alls
 
 over_twice : (v : Bool) (o : Option Rule) (e : Option Entry) → over Intact o (over Intact (cond v o None) e) ≡ over Intact o e
@@ -54,15 +54,15 @@ both_some false o e = absurd (false≢true e)
 
 module _ (s : ℕ) (staged : ℕ → Option Rule) where
   -- a change behind the pending one touches nothing that it writes
-  pub clear_of : (c : Change Rule) (cs : List (Change Rule)) → All (λ b. Between b c) cs → All (Mine s staged) cs → has_pending s cs ≡ true → (x : ℕ)
+  pub clear_of : (c : Change Rule) (cs : List (Change Rule)) → AllByRecursion (λ b. Between b c) cs → AllByRecursion (Mine s staged) cs → has_pending s cs ≡ true → (x : ℕ)
       → is_some (staged x) ≡ true → touched c.ops x ≡ false
   clear_of c [] between mine has x w = absurd (false≢true has)
   clear_of c (b ∷ cs) between mine has x w =
-      ⊎_elim (λ p. between.0.clear (and_parts (is-pending-change b) _ p).0 x (ap is_some (sym (mine.0 p x)) ∙ w))
+      ⊎_elim (λ p. between.0.clear (and_parts (is_pending_change b) _ p).0 x (ap is_some (sym (mine.0 p x)) ∙ w))
       (λ h. clear_of c cs between.1 mine.1 h x w) (or_cases _ _ has)
 
   -- what the slots hold once it is committed
-  pub commit_holds : (m : ℕ → Option Entry) (p : ℕ) (cs : List (Change Rule)) → Pairwise Between cs → All (Mine s staged) cs → (x : ℕ)
+  pub commit_holds : (m : ℕ → Option Entry) (p : ℕ) (cs : List (Change Rule)) → Pairwise Between cs → AllByRecursion (Mine s staged) cs → (x : ℕ)
       → held_after Intact m (map (commit_at s p) cs) x ≡ over Intact (cond (has_pending s cs) (staged x) None) (held_after Intact m cs x)
   commit_holds m p [] chain mine x = refl
   commit_holds m p (c ∷ cs) chain mine x = go (commit_holds m p cs chain.1 mine.1 x) (pending_of s c) refl
@@ -85,7 +85,7 @@ module _ (s : ℕ) (staged : ℕ → Option Rule) where
           both_ways (touched c.ops x) (clear_of c cs chain.0 mine.1 parts.0 x parts.1)
           (or_right (has_read c.ops x) _ (written_some c.committed (latest c.ops x) h)))
 
-  pub commit_right : (m : ℕ → Option Entry) (p : ℕ) (cs : List (Change Rule)) → Pairwise Between cs → All (Mine s staged) cs → AllRight Intact m cs
+  pub commit_right : (m : ℕ → Option Entry) (p : ℕ) (cs : List (Change Rule)) → Pairwise Between cs → AllByRecursion (Mine s staged) cs → AllRight Intact m cs
       → AllRight Intact m (map (commit_at s p) cs)
   commit_right m p [] chain mine right = tt
   commit_right m p (c ∷ cs) chain mine right = (
@@ -98,13 +98,13 @@ module _ (s : ℕ) (staged : ℕ → Option Rule) where
     commit_right m p cs chain.1 mine.1 right.1,
   )
 
-  replaced_written : (cs : List (Change Rule)) → All (Mine s staged) cs → (x : ℕ) → replaced_by s cs x ≡ true → is_some (staged x) ≡ true
+  replaced_written : (cs : List (Change Rule)) → AllByRecursion (Mine s staged) cs → (x : ℕ) → replaced_by s cs x ≡ true → is_some (staged x) ≡ true
   replaced_written [] mine x e = absurd (false≢true e)
   replaced_written (c ∷ cs) mine x e =
       ⊎_elim (λ h. let parts = and_parts (pending_of s c) _ h in ap is_some (mine.0 parts.0 x) ∙ parts.1) (λ h. replaced_written cs mine.1 x h)
       (or_cases _ _ e)
 
-  written_replaced : (cs : List (Change Rule)) → All (Mine s staged) cs → has_pending s cs ≡ true → (x : ℕ) → is_some (staged x) ≡ true
+  written_replaced : (cs : List (Change Rule)) → AllByRecursion (Mine s staged) cs → has_pending s cs ≡ true → (x : ℕ) → is_some (staged x) ≡ true
       → replaced_by s cs x ≡ true
   written_replaced [] mine has x e = absurd (false≢true has)
   written_replaced (c ∷ cs) mine has x e =
@@ -112,18 +112,18 @@ module _ (s : ℕ) (staged : ℕ → Option Rule) where
       (λ h. or_right (pending_of s c && wrote c.ops x) _ (written_replaced cs mine.1 h x e)) (or_cases _ _ has)
 
   -- the slots replaced are those for which a rule is staged
-  pub replaced_is : (cs : List (Change Rule)) → All (Mine s staged) cs → has_pending s cs ≡ true → (x : ℕ) → replaced_by s cs x ≡ is_some (staged x)
+  pub replaced_is : (cs : List (Change Rule)) → AllByRecursion (Mine s staged) cs → has_pending s cs ≡ true → (x : ℕ) → replaced_by s cs x ≡ is_some (staged x)
   replaced_is cs mine has x = same_test _ _ (replaced_written cs mine x) (written_replaced cs mine has x)
 
 -- two pending changes write nothing in common
-pub two_pending : (s t : ℕ) (f g : ℕ → Option Rule) → (t ≡ s → ⊥) → (cs : List (Change Rule)) → Pairwise Between cs → All (Mine s f) cs
-    → All (Mine t g) cs → has_pending s cs ≡ true → has_pending t cs ≡ true
+pub two_pending : (s t : ℕ) (f g : ℕ → Option Rule) → (t ≡ s → ⊥) → (cs : List (Change Rule)) → Pairwise Between cs → AllByRecursion (Mine s f) cs
+    → AllByRecursion (Mine t g) cs → has_pending s cs ≡ true → has_pending t cs ≡ true
     → (x : ℕ) → is_some (f x) ≡ true → is_some (g x) ≡ true → ⊥
 two_pending s t f g ne [] chain ms mt hs ht x p q = false≢true hs
 two_pending s t f g ne (c ∷ cs) chain ms mt hs ht x p q =
     ⊎_elim
     (λ ps. ⊎_elim
-    (λ pt. ne (sym (eqb-true _ _ (and_parts (is-pending-change c) _ pt).1) ∙ eqb-true _ _ (and_parts (is-pending-change c) _ ps).1))
+    (λ pt. ne (sym (eqb-true _ _ (and_parts (is_pending_change c) _ pt).1) ∙ eqb-true _ _ (and_parts (is_pending_change c) _ ps).1))
     (λ h. both_ways (touched c.ops x) (clear_of t g c cs chain.0 mt.1 h x q)
     (or_right (has_read c.ops x) _ (ap is_some (sym (ms.0 ps x)) ∙ p)))
     (or_cases _ _ ht))
@@ -140,34 +140,34 @@ commit_has s t p ne [] h = h
 commit_has s t p ne (c ∷ cs) h =
     ⊎_elim
     (λ q. let other : pending_of s c
-    ≡ false = and_right (is-pending-change c) _
-    (ne_eqb c.session s (λ z. ne (sym (eqb-true _ _ (and_parts (is-pending-change c) _ q).1) ∙ z))) in
+    ≡ false = and_right (is_pending_change c) _
+    (ne_eqb c.session s (λ z. ne (sym (eqb-true _ _ (and_parts (is_pending_change c) _ q).1) ∙ z))) in
     or_left _ _ (ap (λ v. not (is_some (cond v (Some p) c.committed)) && eqb c.session t) other ∙ q))
     (λ k. or_right (pending_of t (commit_at s p c)) _ (commit_has s t p ne cs k))
     (or_cases _ _ h)
 
 -- what is pending afterwards was pending before, and of another session
-pub still_pending : (s p : ℕ) (c : Change Rule) → is-pending-change (commit_at s p c) ≡ true → (is-pending-change c ≡ true) × (pending_of s c ≡ false)
+pub still_pending : (s p : ℕ) (c : Change Rule) → is_pending_change (commit_at s p c) ≡ true → (is_pending_change c ≡ true) × (pending_of s c ≡ false)
 still_pending s p c e = go (pending_of s c) refl e
   where
     go : (v : Bool) → pending_of s c ≡ v → not (is_some (cond v (Some p) c.committed)) ≡ true
-        → (is-pending-change c ≡ true) × (pending_of s c ≡ false)
+        → (is_pending_change c ≡ true) × (pending_of s c ≡ false)
     go true q d = absurd (false≢true d)
     go false q d = (d, q)
 
-pub not_pending_still : (s p : ℕ) (c : Change Rule) → is-pending-change c ≡ false → is-pending-change (commit_at s p c) ≡ false
+pub not_pending_still : (s p : ℕ) (c : Change Rule) → is_pending_change c ≡ false → is_pending_change (commit_at s p c) ≡ false
 not_pending_still s p c e = cond_both (pending_of s c) (Some p) c.committed (λ o. not (is_some o) ≡ false) (λ _. refl) (λ _. e)
 
 -- the queue's entry and the change are committed together
 pub finished_waits : (s p : ℕ) (c : Change Rule) (q : Queued) → Matches c q
-    → (q.pending && not (own_pending s q)) ≡ is-pending-change (commit_at s p c)
+    → (q.pending && not (own_pending s q)) ≡ is_pending_change (commit_at s p c)
 finished_waits s p c q m =
-    ap (λ v. v && not (v && eqb q.session s)) m.waits ∙ ap (λ z. is-pending-change c && not (is-pending-change c && eqb z s)) m.session
+    ap (λ v. v && not (v && eqb q.session s)) m.waits ∙ ap (λ z. is_pending_change c && not (is_pending_change c && eqb z s)) m.session
     ∙ go (pending_of s c)
   where
-    go : (v : Bool) → (is-pending-change c && not v) ≡ not (is_some (cond v (Some p) c.committed))
-    go true = and_right (is-pending-change c) false refl
-    go false = last (is-pending-change c)
+    go : (v : Bool) → (is_pending_change c && not v) ≡ not (is_some (cond v (Some p) c.committed))
+    go true = and_right (is_pending_change c) false refl
+    go false = last (is_pending_change c)
       where
         last : (v : Bool) → (v && true) ≡ v
         last true = refl

@@ -1,7 +1,7 @@
 -- Desks and open changes when copies or notices change. Assumes nothing.
 use Rattle.std.proofs.Common.{◌≡◌, ℕ, ◌<◌, Bool, true, false, not, eqb, List, [], ◌∷◌, is_some, Some, None, Option, sym, refl, ap, ◌∙◌, ⊎_elim, arith}
 use Rattle.std.specs.Option.{option_map}
-use Rattle.std.specs.List.{AllByRecursion as All}
+use Rattle.std.specs.List.{AllByRecursion}
 use Rattle.std.proofs.lemmas.Bool.{le-ltb, or_cases, or_from, and_right}
 use Rattle.rule.specs.declared.Rule.{Rule}
 use Rattle.store.specs.declared.Entry.{Entry}
@@ -14,7 +14,7 @@ use Rattle.calls.proofs.Tools.{some_none}
 use Rattle.calls.proofs.Invariant.{as_entries, DeskOk, OpenOk, ByPhase}
 
 -- what is noted before a place is not after it
-pub none_after : (log : List Replacing) (s x p : ℕ) → All (λ (e : Replacing). e.place < p) log → replaced_after log s x p ≡ false
+pub none_after : (log : List Replacing) (s x p : ℕ) → AllByRecursion (λ (e : Replacing). e.place < p) log → replaced_after log s x p ≡ false
 none_after [] s x p alls = refl
 none_after (e ∷ log) s x p alls =
     or_from _ _ (and_right (not (eqb e.session s)) _ (and_right (e.slots x) _ (le-ltb p e.place (let lt = alls.0 in omega arith))))

@@ -1,6 +1,6 @@
 -- A fetch keeps the invariant. Assumes nothing.
 use Rattle.std.proofs.Common.{◌≡◌, ℕ, ◌<◌, ◌≤◌, Bool, true, false, cond, not, List, length, is_some, Some, None, Ok, Err, Option, sym, refl, ap, ◌∙◌, arith}
-use Rattle.std.specs.List.{slice_get, AllByRecursion as All}
+use Rattle.std.specs.List.{slice_get, AllByRecursion}
 use Rattle.std.proofs.lemmas.Bool.{both_ways, leb-false}
 use Rattle.rule.specs.declared.Rule.{Rule}
 use Rattle.store.specs.declared.Entry.{Entry}
@@ -30,7 +30,7 @@ given l x e = go (slice_get l x) refl e
 
 fetched_desk : (n : ℕ) (entries : List Entry) (number : ℕ) (log : List Replacing) (s : ℕ) (taken : ℕ → Option ℕ) (d : Desk) (x p : ℕ)
     (o : Option Rule) (r : Rule)
-    → o ≡ Some r → slice_get entries x ≡ Some (Intact r) → x < n → All (λ (e : Replacing). e.place < p) log
+    → o ≡ Some r → slice_get entries x ≡ Some (Intact r) → x < n → AllByRecursion (λ (e : Replacing). e.place < p) log
     → DeskOk n entries number log s taken d → DeskOk n entries number log s (changed x (λ _. Some p) taken) (without_notice x (with_copy x o d))
 fetched_desk n entries number log s taken d x p o r is holds lt old ok = record {
   true_copy = λ y q. by_number (λ v. cond v o (d.copies y) ≡ Some q → cond v None (d.notices y) ≡ None → slice_get entries y ≡ Some (Intact q)) y x

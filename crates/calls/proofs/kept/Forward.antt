@@ -2,14 +2,14 @@
 use Rattle.std.proofs.Common.{◌≡◌, ℕ, ◌+◌, ◌<◌, Bool, true, false, cond, ◌&&◌, ◌||◌, eqb, leb, List, [], ◌∷◌, ◌++◌, length, is_some, Some, None, Option, sym, refl, ap, ◌∙◌, subst, inl, inr, ⊎_elim, arith}
 use mathlib.Core.Bool.{false≢true}
 use Rattle.std.specs.Option.{option_map}
-use Rattle.std.specs.List.{slice_get, AllByRecursion as All}
+use Rattle.std.specs.List.{slice_get, AllByRecursion}
 use Rattle.std.proofs.lemmas.Bool.{both_ways, not-false, not-true, eq-eqb, or_left, or_right, or_cases, or_parts, and_from, and_parts}
 use Rattle.std.proofs.ByRecursion.{All-weaker}
 use Rattle.rule.specs.declared.Rule.{Rule}
 use Rattle.store.specs.declared.Entry.{Entry}
 use Rattle.store.specs.declared.Entry.TheVariants.{Intact}
 use Rattle.law.specs.Operations.{latest, wrote, has_read, touched}
-use Rattle.law.specs.Changes.{Key, Change, Clash, earlier, same_key, pending as is-pending-change}
+use Rattle.law.specs.Changes.{Key, Change, Clash, earlier, same_key, pending as is_pending_change}
 use Rattle.law.specs.Orders.{Pairwise}
 use Rattle.law.specs.Accounts.{Draft, Account, changed, joined_by, pending_of, replaced_since, forwards, accepted}
 use Rattle.law.specs.Accounts.{after as then}
@@ -70,10 +70,10 @@ use Rattle.calls.proofs.kept.Desks.{touched_read, has_weaker}
 pub record Accepted (b : State) (s : ℕ) (k : Key) : Type 0 where
   pub is_open : (work_of b s).phase ≡ opened
   pub after_threshold : not_after b.threshold k ≡ false
-  pub new_stamp : All (λ (q : Queued). same_key q.key k ≡ false) b.queue
+  pub new_stamp : AllByRecursion (λ (q : Queued). same_key q.key k ≡ false) b.queue
   pub room : leb 32 (length b.queue) ≡ false
-  pub no_later_clash : All (λ q. later_clash (count b) k (work_of b s) q ≡ false) b.queue
-  pub no_pending_clash : All (λ q. pending_clash (count b) k (work_of b s) q ≡ false) b.queue
+  pub no_later_clash : AllByRecursion (λ q. later_clash (count b) k (work_of b s) q ≡ false) b.queue
+  pub no_pending_clash : AllByRecursion (λ q. pending_clash (count b) k (work_of b s) q ≡ false) b.queue
   pub not_stale : lowest (count b) (λ x. (work_of b s).read x && noticed (desk_of b s) x) ≡ None
   pub number_left : (any_below (count b) (written (work_of b s)) && eqb (b.number + owed (count b) b.queue) last_number) ≡ false
 
@@ -149,9 +149,9 @@ pub record Free (b : State) (s : ℕ) (k : Key) (q : Queued) : Type 0 where
   pub no_later : later_clash (count b) k (work_of b s) q ≡ false
   pub no_pending : pending_clash (count b) k (work_of b s) q ≡ false
 
-all_free : (b : State) (s : ℕ) (k : Key) (qs : List Queued) → All (λ (q : Queued). same_key q.key k ≡ false) qs
-    → All (λ q. later_clash (count b) k (work_of b s) q ≡ false) qs → All (λ q. pending_clash (count b) k (work_of b s) q ≡ false) qs
-    → All (Free b s k) qs
+all_free : (b : State) (s : ℕ) (k : Key) (qs : List Queued) → AllByRecursion (λ (q : Queued). same_key q.key k ≡ false) qs
+    → AllByRecursion (λ q. later_clash (count b) k (work_of b s) q ≡ false) qs → AllByRecursion (λ q. pending_clash (count b) k (work_of b s) q ≡ false) qs
+    → AllByRecursion (Free b s k) qs
 all_free b s k [] x y z = tt
 all_free b s k (q ∷ qs) x y z = (record { new_stamp = x.0; no_later = y.0; no_pending = z.0 }, all_free b s k qs x.1 y.1 z.1)
 
@@ -240,7 +240,7 @@ module _ (first : List Entry) (b : State) (a : Account Rule) (s : ℕ) (k : Key)
       let up = below_threshold b.threshold c.key k gone.1 ac.after_threshold in
       record {
         apart = earlier_not_same c.key k up;
-        clear = λ p x w. absurd (both_ways (is-pending-change c) gone.0 p);
+        clear = λ p x w. absurd (both_ways (is_pending_change c) gone.0 p);
         rising = λ _. up;
       }
   between c good (inr h) =
@@ -252,8 +252,8 @@ module _ (first : List Entry) (b : State) (a : Account Rule) (s : ℕ) (k : Key)
         rising = λ clash. all_any (Free b s k) (Matches c) (λ q f m. entry_rises c q good m f clash) b.queue free h;
       }
 
-  all_between : (cs : List (Change Rule)) → All (ChangeOk (length first) (λ t. (b.sessions t).work)) cs → All (Known b.queue b.threshold) cs
-      → All (λ c. Between c new) cs
+  all_between : (cs : List (Change Rule)) → AllByRecursion (ChangeOk (length first) (λ t. (b.sessions t).work)) cs → AllByRecursion (Known b.queue b.threshold) cs
+      → AllByRecursion (λ c. Between c new) cs
   all_between [] x y = tt
   all_between (c ∷ cs) x y = (between c x.0 y.0, all_between cs x.1 y.1)
 
@@ -305,7 +305,7 @@ module _ (first : List Entry) (b : State) (a : Account Rule) (s : ℕ) (k : Key)
       inr (any_last (Matches new) b.queue (entry_of s k (work_of b s))
       (record { key = refl; session = refl; reads = ok.reads; writes = λ x. ap is_some (ok.stages x); waits = refl }))
 
-  old_known : All (Known queue_now b.threshold) a.accepted
+  old_known : AllByRecursion (Known queue_now b.threshold) a.accepted
   unfolding queue_now
   old_known =
       All-weaker (Known b.queue b.threshold) (Known (b.queue ++ entry_of s k (work_of b s) ∷ []) b.threshold)
@@ -322,9 +322,9 @@ module _ (first : List Entry) (b : State) (a : Account Rule) (s : ℕ) (k : Key)
       inv.right,
     );
     holds = λ x. inv.holds x ∙ ap (λ l. held_after Intact (slice_get first) l x) (sym new_accepted);
-    changes = subst (All (ChangeOk (length first) (λ t. (changed s put_forward b.sessions t).work))) (sym new_accepted)
+    changes = subst (AllByRecursion (ChangeOk (length first) (λ t. (changed s put_forward b.sessions t).work))) (sym new_accepted)
         (new_ok, others_stay (length first) s put_forward b.sessions (opened_pending _ op) a.accepted inv.changes);
-    known = subst (All (Known queue_now b.threshold)) (sym new_accepted) (new_known, old_known);
+    known = subst (AllByRecursion (Known queue_now b.threshold)) (sym new_accepted) (new_known, old_known);
     desks = changed_keeps (λ t p. DeskIn first b a t p.desk) s put_forward b.sessions inv.desks (λ ok. ok);
     works =
         λ t. subst

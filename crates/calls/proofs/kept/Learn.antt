@@ -1,7 +1,7 @@
 -- A learn keeps the invariant, whether it ends a change or not. Assumes nothing.
 use Rattle.std.proofs.Common.{◌≡◌, ℕ, ◌<◌, Bool, true, false, cond, not, ◌&&◌, eqb, List, length, is_some, None, Option, sym, refl, ap, ◌∙◌, subst, arith}
 use mathlib.Core.Bool.{false≢true}
-use Rattle.std.specs.List.{slice_get, AllByRecursion as All}
+use Rattle.std.specs.List.{slice_get, AllByRecursion}
 use Rattle.std.proofs.lemmas.Bool.{cond_both, cond-true, cond-false}
 use Rattle.std.proofs.ByRecursion.{all_kept_by}
 use Rattle.rule.specs.declared.Rule.{Rule}
@@ -61,7 +61,7 @@ module _ (first : List Entry) (b : State) (a : Account Rule) (s : ℕ) (inv : In
   desks_after = changed_keeps (λ t p. DeskIn first b a t p.desk) s (having_learnt (count b) b.number) b.sessions inv.desks
       (λ ok. learnt_desk ok)
 
-  changes_after : All (ChangeOk (length first) (λ t. (changed s (having_learnt (count b) b.number) b.sessions t).work)) a.accepted
+  changes_after : AllByRecursion (ChangeOk (length first) (λ t. (changed s (having_learnt (count b) b.number) b.sessions t).work)) a.accepted
   changes_after = works_kept (length first) (λ t. (b.sessions t).work) (λ t. (changed s (having_learnt (count b) b.number) b.sessions t).work)
       (λ t e. cond_both (eqb t s) (having_learnt (count b) b.number (b.sessions t)) (b.sessions t) (λ p. p.work ≡ (b.sessions t).work)
       (λ _. cond-false (ends_change (count b) (b.sessions t)) no_work (b.sessions t).work

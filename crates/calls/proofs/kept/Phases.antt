@@ -1,6 +1,6 @@
 -- Changes and phases: what the phase of a session tells, and what calls that leave pending changes alone keep. Assumes nothing.
 use Rattle.std.proofs.Common.{◌≡◌, ℕ, false, cond, not, eqb, List, Some, Option, sym, refl, ap, ◌∙◌, subst, true≢false}
-use Rattle.std.specs.List.{AllByRecursion as All}
+use Rattle.std.specs.List.{AllByRecursion}
 use Rattle.std.proofs.lemmas.Bool.{cond_both}
 use Rattle.std.proofs.ByRecursion.{All-weaker}
 use Rattle.rule.specs.declared.Rule.{Rule}
@@ -42,8 +42,8 @@ in_phase p b a s e ok =
     subst (λ z. ByPhase z b.entries (b.sessions s).desk (a.drafts s) (has_pending s a.accepted) (b.sessions s).work) e ok
 
 -- where the change of every pending session stays, the accepted changes stay right
-pub works_kept : (n : ℕ) (f g : ℕ → Work) → ((t : ℕ) → (f t).phase ≡ pending → g t ≡ f t) → (cs : List (Change Rule)) → All (ChangeOk n f) cs
-    → All (ChangeOk n g) cs
+pub works_kept : (n : ℕ) (f g : ℕ → Work) → ((t : ℕ) → (f t).phase ≡ pending → g t ≡ f t) → (cs : List (Change Rule)) → AllByRecursion (ChangeOk n f) cs
+    → AllByRecursion (ChangeOk n g) cs
 works_kept n f g same cs alls =
     All-weaker (ChangeOk n f) (ChangeOk n g)
     (λ c ok. record {
@@ -58,7 +58,7 @@ works_kept n f g same cs alls =
 module _ (n s : ℕ) (f : Session → Session) (sessions : ℕ → Session) where
   -- a session that is not pending is changed
   pub others_stay : ((sessions s).work.phase ≡ pending → ⊥) → (cs : List (Change Rule))
-      → All (ChangeOk n (λ t. (sessions t).work)) cs → All (ChangeOk n (λ t. (changed s f sessions t).work)) cs
+      → AllByRecursion (ChangeOk n (λ t. (sessions t).work)) cs → AllByRecursion (ChangeOk n (λ t. (changed s f sessions t).work)) cs
   others_stay no_pending cs alls =
       works_kept n (λ t. (sessions t).work) (λ t. (changed s f sessions t).work)
       (λ t e. by_number (λ v. (cond v (f (sessions t)) (sessions t)).work ≡ (sessions t).work) t s
@@ -67,7 +67,7 @@ module _ (n s : ℕ) (f : Session → Session) (sessions : ℕ → Session) wher
 
   -- no change is touched
   pub changes_stay : ((p : Session) → (f p).work ≡ p.work) → (cs : List (Change Rule))
-      → All (ChangeOk n (λ t. (sessions t).work)) cs → All (ChangeOk n (λ t. (changed s f sessions t).work)) cs
+      → AllByRecursion (ChangeOk n (λ t. (sessions t).work)) cs → AllByRecursion (ChangeOk n (λ t. (changed s f sessions t).work)) cs
   changes_stay same cs alls =
       works_kept n (λ t. (sessions t).work) (λ t. (changed s f sessions t).work)
       (λ t _. cond_both (eqb t s) (f (sessions t)) (sessions t) (λ p. p.work ≡ (sessions t).work) (λ _. same (sessions t)) (λ _. refl))

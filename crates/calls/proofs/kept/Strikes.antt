@@ -5,7 +5,7 @@ use Rattle.rule.specs.declared.Rule.{Rule}
 use Rattle.store.specs.declared.Entry.{Entry}
 use Rattle.store.specs.declared.Entry.TheVariants.{Intact}
 use Rattle.law.specs.Operations.{latest}
-use Rattle.law.specs.Changes.{Change, pending as is-pending-change}
+use Rattle.law.specs.Changes.{Change, pending as is_pending_change}
 use Rattle.law.specs.Accounts.{pending_of}
 use Rattle.law.proofs.Runs.{AllRight, held_after, right_local, over, written_if}
 use Rattle.calls.proofs.Tools.{none_is}
@@ -47,5 +47,5 @@ struck_has s t ne (c ∷ cs) h =
     (λ _. ⊎_elim (λ p. or_left _ _ p) (λ p. or_right (pending_of t c) _ (struck_has s t ne cs p)) (or_cases _ _ h))
     (λ e. ⊎_elim
     (λ p. absurd
-    (ne (sym (eqb-true _ _ (and_parts (is-pending-change c) _ p).1) ∙ eqb-true _ _ (and_parts (is-pending-change c) _ (not-false _ e)).1)))
+    (ne (sym (eqb-true _ _ (and_parts (is_pending_change c) _ p).1) ∙ eqb-true _ _ (and_parts (is_pending_change c) _ (not-false _ e)).1)))
     (λ p. struck_has s t ne cs p) (or_cases _ _ h))

@@ -5,7 +5,7 @@ use Rattle.std.proofs.lemmas.Bool.{cond_both, both_ways, not-true, or_parts}
 use Rattle.std.proofs.ByRecursion.{All-weaker}
 use Rattle.rule.specs.declared.Rule.{Rule}
 use Rattle.store.specs.declared.Entry.{Entry}
-use Rattle.law.specs.Changes.{Key, earlier, pending as is-pending-change}
+use Rattle.law.specs.Changes.{Key, earlier, pending as is_pending_change}
 use Rattle.law.specs.Accounts.{Account, passes}
 use Rattle.law.specs.Accounts.{after as then}
 use Rattle.law.proofs.Places.{places_kept}
@@ -41,7 +41,7 @@ truncate_ok first b a k inv = record {
   changes = inv.changes;
   known = All-weaker (Known b.queue b.threshold) (Known (queue_after b k) (Some (later b.threshold k)))
       (λ c. ⊎_elim (λ f. inl (f.0, later_keeps b.threshold k c.key f.1))
-      (λ h. any_left (Matches c) ((is-pending-change c ≡ false) × (not (earlier (later b.threshold k) c.key) ≡ true))
+      (λ h. any_left (Matches c) ((is_pending_change c ≡ false) × (not (earlier (later b.threshold k) c.key) ≡ true))
       (stays (later b.threshold k))
       (λ q m e. let parts = or_parts q.pending (earlier (later b.threshold k) q.key) e in
       (sym m.waits ∙ parts.0, ap (λ z. not (earlier (later b.threshold k) z)) (sym m.key) ∙ ap not parts.1))

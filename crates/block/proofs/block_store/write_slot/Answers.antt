@@ -4,7 +4,7 @@ use Rattle.std.proofs.lemmas.Slice.{put_mid-paste}
 use Rattle.block.specs.Layout.{rewritten}
 use Rattle.block.specs.Memory.{block_at}
 use Rattle.block.specs.Rewritten.{length_rewritten}
-use Rattle.block.proofs.store.write_slot.Goals as goal
+use Rattle.block.proofs.block_store.write_slot.Goals as goal
 
 pub returns : goal.returns
 returns c =

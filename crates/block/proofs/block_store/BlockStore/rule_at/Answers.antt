@@ -3,7 +3,7 @@ use Rattle.store.specs.Entries.{answer}
 use Rattle.store.specs.Slots.{got_outside}
 use Rattle.block.specs.Memory.{fits, entry_at, block_entries}
 use Rattle.block.specs.Memories.{sized, below_count, got_entry}
-use Rattle.block.proofs.store.BlockStore.rule_at.Goals as goal
+use Rattle.block.proofs.block_store.BlockStore.rule_at.Goals as goal
 
 pub returns-then-slot-slots : goal.returns-then-slot-slots
 returns-then-slot-slots c = sym (got_outside _ _ (omega (arith, c.slots.ensures)))

@@ -5,7 +5,7 @@ use Rattle.store.specs.Entries.{done, got}
 use Rattle.store.specs.Slots.{inside_from_got, put_where_got}
 use Rattle.block.specs.Memory.{fits, block_entries, with_rule}
 use Rattle.block.specs.Memories.{sized, below_count, room, got_entry, length_with, set_entry}
-use Rattle.block.proofs.store.BlockStoreStoring.put.Goals as goal
+use Rattle.block.proofs.block_store.BlockStoreStoring.put.Goals as goal
 
 pub write_slot-requires : goal.write_slot-requires
 write_slot-requires c =

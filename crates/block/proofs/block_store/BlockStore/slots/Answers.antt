@@ -1,7 +1,7 @@
 use Rattle.std.proofs.Common.{length, vec_items, sym, ap, ◌∙◌}
 use Rattle.block.specs.Memory.{fits}
 use Rattle.block.specs.Memories.{length_entries}
-use Rattle.block.proofs.store.BlockStore.slots.Goals as goal
+use Rattle.block.proofs.block_store.BlockStore.slots.Goals as goal
 
 pub returns-in-Ok : goal.returns-in-Ok
 returns-in-Ok c =

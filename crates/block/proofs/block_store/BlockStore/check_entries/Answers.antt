@@ -2,7 +2,7 @@ use Rattle.std.proofs.Common.{◌≡◌, ◌<◌, ◌≤◌, length, vec_items, 
 use Rattle.std.proofs.lemmas.Result.{err_from_is_err_and}
 use Rattle.store.specs.Slots.{whole_more, whole_stop, whole_all}
 use Rattle.block.specs.Memory.{block_entries}
-use Rattle.block.proofs.store.BlockStore.check_entries.Goals as goal
+use Rattle.block.proofs.block_store.BlockStore.check_entries.Goals as goal
 
 pub returns-in_err-rule_at : goal.returns-in_err-rule_at
 returns-in_err-rule_at c =
