@@ -12,7 +12,7 @@ crate, function, place, bug, verdict, and the function whose contract was not me
 A bug that is NOT REFUSED shows that a contract says too little, or that the edit does not change what the function does; tools/planted_same.txt has those
 that were looked at and found to change nothing, with the reason.
 
-Every run takes over what the last `rt dev NAME` or `rt check NAME` proved of the crate.
+The bugs are planted in a copy, which takes over what earlier checks proved of the crate there.
 """
 import os
 import re

@@ -3,27 +3,40 @@
 
     tools/try_edits.py NAME [LABEL..]
 
-An edit takes over what the last `rt dev NAME` or `rt check NAME` proved of the crate, so it takes seconds, where `rt must-fail` begins from nothing.
-That makes it a quick look and not the verdict. For each edit one line is written: refused or NOT REFUSED, and the first complaint.
+The copy stands in a folder of its own among the temporary files, and an edit takes over what earlier checks proved of the crate there, so it takes seconds. That makes it a quick
+look and not the verdict, which `rt must-fail` and `rt ci` give. For each edit one line is written: refused or NOT REFUSED, and the first complaint.
 """
+import functools
 import os
 import re
 import shutil
 import subprocess
 import sys
+import tempfile
 import time
 
 ROOT = os.path.dirname(os.path.dirname(os.path.abspath(__file__)))
-KIT = os.path.dirname(os.path.dirname(subprocess.run(["rt", "doc"], capture_output=True, text=True, check=True).stdout.strip()))
 TARGET = os.path.join(ROOT, "target")
+# a checkout beside this one: no check reads the sources in it, and none that is planted gets into this one
+COPY = os.path.join(tempfile.gettempdir(), f"planted-{os.getuid()}")
 
 
-def dependencies(name):
-    with open(os.path.join(ROOT, "crates.txt"), encoding="utf-8") as lines:
-        for line in lines:
-            if line.startswith(name + ":"):
-                return line.split("#")[0].split(":")[1].split()
-    sys.exit(f"{name} is not in crates.txt")
+def refresh(name):
+    """The copy of a crate as its sources stand now; what was proved of it stays."""
+    for part in ("src", "specs", "proofs"):
+        source, copy = (os.path.join(top, "crates", name, part) for top in (ROOT, COPY))
+        shutil.rmtree(copy, ignore_errors=True)
+        if os.path.isdir(source):
+            shutil.copytree(source, copy)
+
+
+@functools.cache
+def begin():
+    """Makes the copy of every crate, once in a run."""
+    os.makedirs(COPY, exist_ok=True)
+    shutil.copy(os.path.join(ROOT, "crates.txt"), COPY)
+    for name in os.listdir(os.path.join(ROOT, "crates")):
+        refresh(name)
 
 
 def replacements(text):
@@ -58,30 +71,14 @@ def first_complaint(log, folder):
 
 def copy_of(name):
     """A copy of a crate, to be edited."""
-    folder = os.path.join(TARGET, "planted", name)
-    shutil.rmtree(folder, ignore_errors=True)
-    for part in ("src", "specs", "proofs"):
-        source = os.path.join(ROOT, "crates", name, part)
-        if os.path.isdir(source):
-            shutil.copytree(source, os.path.join(folder, part))
-    return folder
+    begin()
+    refresh(name)
+    return os.path.join(COPY, "crates", name)
 
 
-def prove(name, folder):
+def prove(folder):
     """What the prover says of a copy: a verdict, and its whole log."""
-    root = "lib.rt" if os.path.exists(os.path.join(folder, "src", "lib.rt")) else "main.rt"
-    command = [f"{KIT}/bin/rattle", "check", "--crate-name", name, f"{folder}/src/{root}", "--extern", f"std={KIT}/rlib/std.rlib"]
-    for dependency in dependencies(name):
-        command += ["--extern", f"{dependency}={TARGET}/rlib/{dependency}.rlib"]
-    command += ["-L", f"dependency={TARGET}/rlib", "-L", f"dependency={KIT}/rlib"]
-    command += ["--antt-project", f"{KIT}/logic/antt-project.json", "--logic-built", f"{KIT}/logic-built"]
-    proved = os.path.join(TARGET, "inc", name)
-    if os.path.isdir(proved):
-        kept = folder + ".inc"
-        shutil.rmtree(kept, ignore_errors=True)
-        shutil.copytree(proved, kept)
-        command += ["--incremental", kept]
-    done = subprocess.run(command, stdout=subprocess.PIPE, stderr=subprocess.STDOUT, text=True, check=False)
+    done = subprocess.run(["rt", "check"], cwd=folder, stdout=subprocess.PIPE, stderr=subprocess.STDOUT, text=True, check=False)
     if done.returncode == 0:
         return "NOT REFUSED", done.stdout
     refused = done.returncode == 1 and re.search("^logic=not-proved", done.stdout, re.M)
@@ -97,7 +94,7 @@ def run_on_copy(name, file, number, line):
     lines[number] = line
     with open(path, "w", encoding="utf-8") as new:
         new.write("\n".join(lines))
-    return prove(name, folder)
+    return prove(folder)
 
 
 def try_edit(name, edit):
@@ -111,7 +108,7 @@ def try_edit(name, edit):
             return "BAD EDIT", f"an old text stands {text.count(old)} times in {file}"
         with open(path, "w", encoding="utf-8") as source:
             source.write(text.replace(old, new))
-    verdict, log = prove(name, folder)
+    verdict, log = prove(folder)
     return verdict, first_complaint(log, folder) if verdict != "NOT REFUSED" else ""
 
 

@@ -1,5 +1,5 @@
 -- The text of an answer: the line's number, the result, and then the value, or layer and place. Assumes nothing.
-use Rattle.std.specs.Prelude.{ℕ, Bool, cond, List, [], ◌∷◌, ◌++◌, codes, decimal}
+use Rattle.std.specs.Prelude.{ℕ, Bool, cond, List, ◌∷◌, ◌++◌, codes, decimal}
 use Rattle.refusal.specs.Table.{line}
 use Rattle.rule.specs.Text.{text}
 use Rattle.slots.specs.Meaning.{has}

@@ -1,7 +1,7 @@
 -- A memory of open rules, block by block. Assumes nothing.
-use Rattle.std.proofs.Common.{◌≡◌, ℕ, zero, suc, ◌+◌, ◌-◌, ◌*◌, ◌/◌, ◌%◌, ◌<◌, ◌≤◌, min, true, List, [], ◌∷◌, ◌++◌, map, length, get_or, take, drop, replicate, Some, None, sym, refl, ap, ◌∙◌, add-zero, zero-add, add-one, arith, length-append}
+use Rattle.std.proofs.Common.{◌≡◌, ℕ, zero, suc, ◌+◌, ◌-◌, ◌*◌, ◌/◌, ◌%◌, ◌<◌, ◌≤◌, true, List, [], ◌∷◌, ◌++◌, length, take, drop, replicate, Some, None, sym, refl, ap, ◌∙◌, add-zero, zero-add, arith}
 use borrow.Rule.Slice.PartMut.{put_mid}
-use Rattle.std.specs.List.{range_with_len, between, flat_map}
+use Rattle.std.specs.List.{range_with_len, flat_map}
 use Rattle.std.proofs.lemmas.List.FromFn.{length-map-range_with_len, get_or-map-range_with_len, map-range_with_len_more}
 use Rattle.std.proofs.lemmas.List.{same_lists, take_all, take_at, drop_at, drop-drop, flat_map_more, map-id, get_or-replicate, length-replicate}
 use Rattle.std.proofs.lemmas.Slice.{take-put_mid}
@@ -10,7 +10,7 @@ use Rattle.store.specs.declared.Entry.TheVariants.{Intact}
 use Rattle.block.specs.Layout.{rule_at, damage_of, laid_out}
 use Rattle.block.specs.Memory.{blocks, slots_in, fits, block_at, entry_in, entry_at, block_entries, formatted}
 use Rattle.block.proofs.LaidOut.{length_laid, right_laid, rule_laid}
-use Rattle.block.specs.Memories.{Fits, fits_says, counted}
+use Rattle.block.specs.Memories.{counted}
 
 -- block n of k open rules
 abbrev pub open_block : ℕ → ℕ → List ℕ

@@ -1,21 +1,19 @@
 -- The entries of a memory of blocks, and what writing one rule does to them. Assumes nothing.
-use Rattle.std.specs.Prelude.{◌≡◌, ℕ, ◌+◌, ◌-◌, ◌*◌, ◌/◌, ◌%◌, ◌<◌, ◌≤◌, min, true, false, cond, ◌&&◌, List, [], map, length, get_or, take, drop, set, is_ok, Some, None, Ok, Err, Option, ◌≢◌, slice_index_or, slice_set, refl}
+use Rattle.std.specs.Prelude.{◌≡◌, ℕ, ◌+◌, ◌-◌, ◌*◌, ◌/◌, ◌%◌, ◌<◌, ◌≤◌, true, false, List, [], map, length, get_or, take, drop, set, Some, None, Ok, Option, ◌≢◌, slice_index_or, slice_set, refl}
 use Rattle.std.proofs.Math.Path.{sym, ap}
-use Rattle.std.proofs.Common.{◌∙◌, subst, ⊎_elim, zero-add, arith, rules, length-set}
+use Rattle.std.proofs.Common.{◌∙◌, ⊎_elim, zero-add, arith, length-set}
 use borrow.Rule.Slice.PartMut.{put_mid}
-use Rattle.std.specs.List.{range_with_len, between}
-use Rattle.std.proofs.Math.Seq.{paste}
+use Rattle.std.specs.List.{range_with_len}
 use Rattle.std.proofs.lemmas.List.FromFn.{length-map-range_with_len, get_or-map-range_with_len}
 use Rattle.std.proofs.lemmas.List.Edits.{length-between, length-paste}
-use Rattle.std.proofs.lemmas.List.{same_lists, get_or-set_same, get_or-set_other, length-map}
+use Rattle.std.proofs.lemmas.List.{same_lists, get_or-set_same, get_or-set_other}
 use Rattle.std.proofs.lemmas.Slice.{between_is, put_mid-paste, take-put_mid_below, drop-put_mid, between-put_mid}
-use Rattle.std.proofs.lemmas.Bool.{cond-true, cond-false, cond_both, cases_Bool, cases_eq, cases_order, and_parts, leb-true, eqb-true}
+use Rattle.std.proofs.lemmas.Bool.{cond-true, cond-false, cases_Bool, cases_eq, cases_order, and_parts, leb-true, eqb-true}
 use Rattle.refusal.specs.declared.Fault.{Fault}
 use Rattle.rule.specs.declared.Rule.{Rule}
-use Rattle.store.specs.declared.Entry.{Entry}
-use Rattle.store.specs.declared.Entry.TheVariants.{Intact, Broken}
+use Rattle.store.specs.declared.Entry.TheVariants.{Intact}
 use Rattle.store.specs.Entries.{answer, got}
-use Rattle.store.specs.Slots.{got_inside, inside_from_got}
+use Rattle.store.specs.Slots.{got_inside}
 use Rattle.block.specs.Layout.{rule_at, damage_of, rewritten}
 use Rattle.block.specs.Memory.{counts, blocks, slots_in, fits, block_at, entry_in, entry_at, block_entries, with_rule}
 use Rattle.block.specs.Rewritten.{length_rewritten, rule_rewritten, other_rewritten, right_rewritten}

@@ -1,5 +1,5 @@
 -- What is right with a block, and that one that is right holds rules. Assumes nothing.
-use Rattle.std.specs.Prelude.{◌≡◌, ℕ, zero, suc, ◌+◌, ◌-◌, ◌<◌, ◌≤◌, Bool, true, false, cond, not, ◌&&◌, List, length, drop, is_some, Some, None, Option, ◌==◌, bit_or, nat_eq, slice_index, refl}
+use Rattle.std.specs.Prelude.{◌≡◌, ℕ, zero, suc, ◌+◌, ◌<◌, ◌≤◌, Bool, true, false, cond, not, ◌&&◌, List, length, drop, is_some, Some, None, Option, ◌==◌, bit_or, nat_eq, slice_index, refl}
 use Rattle.std.proofs.Common.{sym, ap, ◌∙◌, ⊎_elim, add-one, arith}
 use Rattle.std.specs.Int.Bits.{or_zero_l, or_add_and}
 use Rattle.std.proofs.lemmas.Nat.{and_le_r}

@@ -1,5 +1,5 @@
 -- The text of a call reads as that call. Assumes nothing.
-use Rattle.std.proofs.Common.{◌≡◌, ℕ, ◌+◌, ◌/◌, ◌%◌, ◌^◌, ◌<◌, ◌≤◌, Bool, true, false, cond, ltb, List, [], ◌∷◌, ◌++◌, length, is_some, Some, None, Ok, Err, decimal, Option, Result, sym, refl, ap, ◌∙◌, arith, length-append}
+use Rattle.std.proofs.Common.{◌≡◌, ℕ, ◌+◌, ◌/◌, ◌%◌, ◌^◌, ◌<◌, ◌≤◌, false, cond, ltb, List, [], ◌∷◌, ◌++◌, length, is_some, Some, None, Ok, Err, decimal, Option, refl, ap, ◌∙◌, arith, length-append}
 use Rattle.std.specs.Option.{option_map, ok_or}
 use Rattle.std.proofs.lemmas.Fmt.{length-decimal-le}
 use Rattle.std.proofs.lemmas.Bool.{cond-false}
@@ -7,13 +7,12 @@ use Rattle.std.proofs.lemmas.Bool.Decides.{nat_tests}
 use Rattle.text.specs.Steps.{and_then}
 use Rattle.text.proofs.Cuts.{Lacks}
 use Rattle.text.proofs.Decimal.{number_decimal, lacks_decimal}
-use Rattle.refusal.specs.declared.Refusal.{Refusal}
 use Rattle.refusal.specs.declared.Refusal.TheVariants.{NoRule, Unreadable}
 use Rattle.rule.specs.declared.Action.{Action}
 use Rattle.rule.specs.declared.Action.TheVariants.{Allow, Block}
 use Rattle.rule.specs.declared.Rule.{Rule}
 use Rattle.rule.specs.Making.{action_number, parts_of, make}
-use Rattle.rule.specs.Reading.{network_of, action_of, ports_of, parts_in, fields}
+use Rattle.rule.specs.Reading.{network_of, action_of, ports_of, fields}
 use Rattle.rule.specs.Text.{address_text, network_text, action_text, ports_text, text}
 use Rattle.rule.proofs.Rules.{make_parts}
 use Rattle.rule.proofs.Fields.{fields_one, fields_more}
@@ -22,7 +21,7 @@ use Rattle.protocol.specs.declared.Call.{Call}
 use Rattle.protocol.specs.declared.Call.TheVariants.{Begin, Fetch, Read, Write, Drop, Forward, Commit, Abort, Learn, Receipt, Truncate}
 use Rattle.protocol.specs.Texts.{call_text, Fits}
 use Rattle.line.specs.Cutting.{placed}
-use Rattle.line.specs.Reading.{Form, of_session, of_numbers, of_rule, of_change, of_stamp, form, numeral, refuse_or, read_form, read_fields, call_of}
+use Rattle.line.specs.Reading.{of_session, of_numbers, of_rule, of_change, of_stamp, form, numeral, refuse_or, read_form, read_fields, call_of}
 
 number_back : (n : ℕ) → n < 2 ^ 32 → numeral (decimal n) ≡ Some n
 number_back n h = number_decimal 4294967295 n (omega arith) (omega arith)

@@ -8,14 +8,14 @@ use Rattle.rule.specs.declared.Rule.{Rule}
 use Rattle.rule.specs.declared.Action.{Action}
 use Rattle.rule.specs.declared.Parts.{Parts}
 use Rattle.rule.specs.Making.{action_number, make}
-use Rattle.rule.specs.Reading.{network_of, action_of, ports_of, parts_in, fields}
+use Rattle.rule.specs.Reading.{network_of, action_of, ports_of, fields}
 use Rattle.protocol.specs.declared.Call.{Call}
 use Rattle.protocol.specs.declared.Call.TheVariants.{Begin, Fetch, Read, Write, Drop, Forward, Commit, Abort, Learn, Receipt, Truncate}
 use Rattle.line.specs.declared.cutting.Line.{Line}
 use Rattle.line.specs.declared.cutting.Line.TheVariants.{Empty, One, Two, Three, Four, Five, Six, More, TooLong}
 use Rattle.line.specs.Cutting.{placed, parts, is_too_long, cut_of, first_of, rest_of}
-use Rattle.line.specs.Reading.{Form, of_session, of_numbers, of_rule, of_change, of_stamp, form, form_of, kinds, numeral, first_wrong, place, call_in, refuse_or, read_form, read_fields, call_of}
-use Rattle.line.specs.Steps.{next, first_as, no_more, last_as, two_as, parts_as, rule_as, write_as, session_as, numbers_as, by_letter, letter_of, with_letter, fields_as}
+use Rattle.line.specs.Reading.{Form, of_session, of_numbers, of_rule, of_change, of_stamp, form, form_of, numeral, first_wrong, place, refuse_or, read_form, read_fields, call_of}
+use Rattle.line.specs.Steps.{next, no_more, last_as, two_as, write_as, session_as, numbers_as, by_letter, letter_of, with_letter, fields_as}
 
 next_next : {X Y Z : Type 0} (m : Result X Refusal) (k : X → Result Y Refusal) (l : Y → Result Z Refusal) → next (next m k) l ≡ next m (λ x. next (k x) l)
 next_next (Ok x) k l = refl

@@ -1,5 +1,5 @@
 -- What a line reads as: a call, or the refusal that it meets. Assumes nothing.
-use Rattle.std.specs.Prelude.{ℕ, Bool, cond, List, [], ◌∷◌, length, is_some, Some, None, Ok, Err, Option, Result, ◌==◌, nat_lt, slice_index_or}
+use Rattle.std.specs.Prelude.{ℕ, Bool, cond, List, [], ◌∷◌, length, is_some, Some, None, Err, Option, Result, ◌==◌, nat_lt, slice_index_or}
 use Rattle.std.specs.Option.{option_map, ok_or}
 use Rattle.text.specs.Numbers.{number_of}
 use Rattle.text.specs.Steps.{and_then}

@@ -1,11 +1,8 @@
 -- The first of a list that passes a test, found by a loop. Assumes nothing.
-use Rattle.std.proofs.Common.{◌≡◌, ℕ, zero, suc, ◌+◌, ◌<◌, ◌≤◌, Bool, true, false, cond, List, [], ◌∷◌, map, length, get_or, drop, Some, None, Option, sym, refl, ap, ◌∙◌, add-zero, add_assoc, add-suc, zero-add, add-one, arith}
+use Rattle.std.proofs.Common.{◌≡◌, ℕ, suc, ◌+◌, ◌<◌, ◌≤◌, Bool, true, false, cond, List, [], ◌∷◌, map, length, get_or, drop, Some, None, Option, sym, refl, ap, ◌∙◌, add-zero, zero-add, arith}
 use Rattle.std.specs.Option.{option_map}
 use Rattle.std.proofs.lemmas.List.{at_drop_more, at_drop_all}
 use Rattle.calls.specs.Sets.{first_place}
-use Rattle.calls.specs.State.{Queued}
-use Rattle.calls.specs.Checks.{owed}
-use Rattle.queue.specs.Entries.{owing}
 
 -- the place of the first that passes, counted from i
 abbrev pub first_from : {X : Type 0} → ℕ → (X → Bool) → List X → Option ℕ

@@ -1,5 +1,5 @@
 -- What does not stand in a text. Assumes nothing.
-use Rattle.std.specs.Prelude.{◌≡◌, ℕ, List, ◌≢◌}
+use Rattle.std.specs.Prelude.{ℕ, List, ◌≢◌}
 use Rattle.std.specs.List.{AllByRecursion}
 
 -- no byte of the text is a space

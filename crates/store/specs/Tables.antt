@@ -1,5 +1,5 @@
 -- The entries of a table, by its rows. Assumes nothing.
-use Rattle.std.specs.Prelude.{◌≡◌, ℕ, ◌<◌, ◌≤◌, true, false, cond, List, [], map, length, set, is_ok, slice_index_or, slice_set, refl}
+use Rattle.std.specs.Prelude.{◌≡◌, ℕ, ◌<◌, ◌≤◌, true, false, List, [], map, length, set, slice_index_or, slice_set, refl}
 use Rattle.std.proofs.Common.{sym, ap, ◌∙◌, ⊎_elim, arith, length-set}
 use Rattle.std.proofs.lemmas.Bool.{cond-true, cond-false, cond_both, cases_Bool, and_parts, leb-true}
 use Rattle.std.proofs.lemmas.List.{get_or-map, map-set, length-map}
@@ -8,8 +8,8 @@ use Rattle.rule.specs.declared.Rule.{Rule}
 use Rattle.rule.specs.Making.{parts_of}
 use Rattle.rule.proofs.Rules.{make_parts}
 use Rattle.store.specs.declared.Entry.TheVariants.{Intact}
-use Rattle.store.specs.Entries.{answer, got, put_into}
-use Rattle.store.specs.Table.{right_size, entry_of, row_entry, table_entries, put_row}
+use Rattle.store.specs.Entries.{answer, got}
+use Rattle.store.specs.Table.{right_size, entry_of, row_entry, table_entries}
 use Rattle.store.specs.Slots.{got_inside}
 
 pub counted : (rows : List Parts) → right_size (length rows) ≡ true → table_entries rows ≡ map row_entry rows

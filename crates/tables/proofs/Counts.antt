@@ -1,5 +1,5 @@
 -- Sets of slots below a count. Assumes nothing.
-use Rattle.std.proofs.Common.{◌≡◌, ℕ, zero, suc, ◌<◌, ◌≤◌, Bool, true, false, cond, ◌&&◌, is_some, Some, None, Option, sym, refl, ap, ◌∙◌, ⊎_elim, arith}
+use Rattle.std.proofs.Common.{◌≡◌, ℕ, zero, suc, ◌<◌, ◌≤◌, Bool, true, false, cond, Some, None, sym, refl, ap, ◌∙◌, ⊎_elim, arith}
 use mathlib.Core.Path.{fun_ext}
 use Rattle.std.specs.Option.{option_or}
 use Rattle.std.proofs.lemmas.Bool.{cases_lt, cases_eq, cond_below, cond_above}
@@ -10,7 +10,7 @@ use Rattle.slots.proofs.Sets.{none_at, both_at, inserted_same, inserted_other, i
 use Rattle.law.specs.Accounts.{changed}
 use Rattle.tables.specs.Meaning.{below, shared}
 use Rattle.tables.proofs.Tables.{changed_here, changed_other}
-use Rattle.calls.specs.Sets.{lowest, any_below, meets}
+use Rattle.calls.specs.Sets.{lowest}
 
 -- no number below n passes a test that none passes
 pub lowest_none : (n : ℕ) (f : ℕ → Bool) → ((x : ℕ) → x < n → f x ≡ false) → lowest n f ≡ None

@@ -1,13 +1,13 @@
 -- Tables over slots, value by value. Assumes nothing.
-use Rattle.std.proofs.Common.{◌≡◌, ℕ, zero, suc, ◌+◌, ◌<◌, ◌≤◌, Bool, true, false, cond, not, ◌&&◌, eqb, ltb, List, length, get_or, set, is_some, Some, None, Option, sym, refl, ap, ◌∙◌, ap₂, ⊎_elim, arith}
+use Rattle.std.proofs.Common.{◌≡◌, ℕ, ◌+◌, ◌<◌, ◌≤◌, Bool, true, false, cond, not, ◌&&◌, ltb, length, get_or, set, is_some, Some, None, Option, sym, refl, ap, ◌∙◌, ap₂, ⊎_elim, arith}
 use mathlib.Core.Path.{fun_ext}
 use Rattle.std.specs.Option.{option_or}
-use Rattle.std.proofs.lemmas.Bool.{cases_lt, cases_eq, cases_Bool, eq-eqb, ne_eqb, lt-ltb, le-ltb, cond_below, cond_above}
+use Rattle.std.proofs.lemmas.Bool.{cases_lt, cases_eq, eq-eqb, ne_eqb, lt-ltb, le-ltb, cond_below, cond_above}
 use Rattle.std.proofs.lemmas.List.{get_or-set_same, get_or-set_other}
 use Rattle.slots.specs.declared.SlotSet.{SlotSet}
-use Rattle.slots.specs.Sets.{none, inserted, removed, without, either, both}
+use Rattle.slots.specs.Sets.{none, inserted, removed, without}
 use Rattle.slots.specs.Meaning.{has}
-use Rattle.slots.proofs.Sets.{none_at, both_at, without_at, either_at, inserted_same, inserted_other, removed_same, removed_other, removed_outside}
+use Rattle.slots.proofs.Sets.{none_at, without_at, inserted_same, inserted_other, removed_same, removed_other, removed_outside}
 use Rattle.slots.proofs.Members.{has_outside}
 use Rattle.law.specs.Accounts.{changed}
 use Rattle.tables.specs.declared.SlotMap.{SlotMap}

@@ -1,4 +1,4 @@
-use Rattle.std.proofs.Common.{◌≡◌, Ok, vec_items, sym, ap, ◌∙◌, rules}
+use Rattle.std.proofs.Common.{Ok, vec_items, sym, ap, ◌∙◌, rules}
 use Rattle.image.specs.Image.{image_count}
 use Rattle.image.proofs.Counts.{all_slots}
 use Rattle.image.proofs.open.Goals as goal

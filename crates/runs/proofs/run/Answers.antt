@@ -1,4 +1,4 @@
-use Rattle.std.proofs.Common.{◌≡◌, ◌<◌, ◌≤◌, [], map, length, vec_items, sym, ap, ◌∙◌, subst, arith}
+use Rattle.std.proofs.Common.{◌<◌, ◌≤◌, [], map, length, vec_items, sym, ap, ◌∙◌, subst, arith}
 use Rattle.calls.specs.State.{just_made}
 use Rattle.calls.specs.Histories.{history, final}
 use Rattle.calls.proofs.Steps.{law_of_reached}

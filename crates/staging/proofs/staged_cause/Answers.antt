@@ -1,4 +1,4 @@
-use Rattle.std.proofs.Common.{◌≡◌, length, sym, ap, ◌∙◌, arith}
+use Rattle.std.proofs.Common.{length, sym, ap, ◌∙◌, arith}
 use Rattle.tables.specs.Meaning.{at}
 use Rattle.staging.specs.Staged.{slot_cause}
 use Rattle.staging.proofs.Stagings.{refused_more, refused_stop}

@@ -1,9 +1,8 @@
-use Rattle.std.proofs.Common.{◌≡◌, ◌+◌, ◌*◌, ◌/◌, ◌≤◌, length, replicate, Ok, Err, sym, ap, ◌∙◌, arith}
+use Rattle.std.proofs.Common.{◌≡◌, length, replicate, sym, ap, ◌∙◌, arith}
 use Rattle.std.proofs.lemmas.Bool.{cond-true}
-use Rattle.refusal.specs.declared.Refusal.TheVariants.{WrongSize}
 use Rattle.rule.specs.Making.{open_rule}
 use Rattle.block.specs.Layout.{laid_out}
-use Rattle.block.specs.Memory.{blocks, fits, block_entries, formatted}
+use Rattle.block.specs.Memory.{fits, block_entries, formatted}
 use Rattle.block.specs.Memories.{fits_says}
 use Rattle.block.proofs.Formatted.{formatted_none, formatted_more, formatted_all, formatted_means}
 use Rattle.block.proofs.memory.format.Goals as goal

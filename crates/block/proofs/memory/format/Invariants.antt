@@ -1,4 +1,4 @@
-use Rattle.std.proofs.Common.{◌≡◌, ◌*◌, length, take}
+use Rattle.std.proofs.Common.{◌≡◌, ◌*◌, take}
 use Rattle.block.proofs.Formatted.{formatted_below}
 use Rattle.block.proofs.memory.format.Given as goal
 

@@ -1,6 +1,5 @@
 use Rattle.std.proofs.Common.{◌≡◌, true, sym, ap, ◌∙◌}
 use Rattle.slots.specs.Meaning.{has}
-use Rattle.session.specs.Views as seen
 use Rattle.calls.specs.Sets.{any_below}
 use Rattle.calls.specs.State.{Session, written}
 use Rattle.calls.specs.Checks.{count, work_of}

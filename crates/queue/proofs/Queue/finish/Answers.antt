@@ -1,4 +1,4 @@
-use Rattle.std.proofs.Common.{◌≡◌, ◌<◌, ◌≤◌, ◌++◌, map, length, get_or, take, drop, set, vec_items, sym, ap, ◌∙◌, ap₂, arith}
+use Rattle.std.proofs.Common.{◌<◌, ◌≤◌, ◌++◌, map, length, set, vec_items, sym, ap, ◌∙◌, ap₂, arith}
 use lib.ListN.{length-map}
 use Rattle.std.proofs.lemmas.List.{get_or-map, map-set, take_all, drop_all, append-nil}
 use Rattle.std.proofs.lemmas.List.Edits.{map_over_more}

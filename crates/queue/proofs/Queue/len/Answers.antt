@@ -1,4 +1,4 @@
-use Rattle.std.proofs.Common.{vec_items, sym, ◌∙◌, arith, rules}
+use Rattle.std.proofs.Common.{vec_items, arith, rules}
 use lib.ListN.{length-map}
 use Rattle.queue.specs.Entries.{change_view}
 use Rattle.queue.proofs.Queue.len.Goals as goal

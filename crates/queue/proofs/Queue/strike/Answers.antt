@@ -1,7 +1,6 @@
-use Rattle.std.proofs.Common.{◌≡◌, ◌<◌, ◌≤◌, Bool, not, map, length, vec_items, sym, ap, ◌∙◌, arith}
+use Rattle.std.proofs.Common.{◌<◌, ◌≤◌, Bool, not, map, length, vec_items, sym, ap, ◌∙◌, arith}
 use Rattle.calls.specs.Effects.{own_pending}
 use Rattle.queue.specs.Entries.{change_view}
-use lib.ListN.{length-map}
 use Rattle.std.proofs.lemmas.List.Filters.{FiltersInPlace-all, FiltersInPlace-more_no, FiltersInPlace-more_set}
 use Rattle.calls.specs.State.{Queued}
 use Rattle.queue.proofs.Filtered.{kept_view}

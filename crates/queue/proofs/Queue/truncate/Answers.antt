@@ -1,4 +1,4 @@
-use Rattle.std.proofs.Common.{◌≡◌, ◌<◌, ◌≤◌, Bool, map, length, vec_items, sym, ap, ◌∙◌, arith}
+use Rattle.std.proofs.Common.{◌<◌, ◌≤◌, Bool, map, length, vec_items, sym, ap, ◌∙◌, arith}
 use Rattle.calls.specs.Effects.{stays}
 use Rattle.queue.specs.Entries.{key_view, change_view}
 use lib.ListN.{length-map}

@@ -1,8 +1,8 @@
-use Rattle.std.proofs.Common.{◌≡◌, sym, ap, ◌∙◌}
+use Rattle.std.proofs.Common.{sym, ap, ◌∙◌}
 use Rattle.std.specs.Option.{ok_or}
 use Rattle.refusal.specs.declared.Refusal.TheVariants.{NoRule}
-use Rattle.rule.specs.Making.{parts_of, facts, rule_with}
-use Rattle.rule.proofs.Rules.{same_rule, make_parts, make_none, with_parts}
+use Rattle.rule.specs.Making.{parts_of, facts}
+use Rattle.rule.proofs.Rules.{make_parts, make_none, with_parts}
 use Rattle.rule.proofs.Rule.from_parts.Goals as goal
 
 pub returns-then-not-is_rule : goal.returns-then-not-is_rule

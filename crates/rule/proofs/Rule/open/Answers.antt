@@ -1,4 +1,4 @@
-use Rattle.std.proofs.Common.{sym, refl}
+use Rattle.std.proofs.Common.{sym}
 use Rattle.rule.proofs.Rules.{same_rule, parts_open}
 use Rattle.rule.proofs.Rule.open.Goals as goal
 

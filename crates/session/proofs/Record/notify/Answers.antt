@@ -1,4 +1,4 @@
-use Rattle.std.proofs.Common.{◌≡◌, ℕ, Bool, Option, ap, ◌∙◌}
+use Rattle.std.proofs.Common.{ℕ, Bool, Option, ap, ◌∙◌}
 use Rattle.slots.specs.Meaning.{has}
 use Rattle.tables.specs.Meaning.{at, shared, marked}
 use Rattle.session.specs.Views.{phase_view}

@@ -1,9 +1,9 @@
-use Rattle.std.proofs.Common.{◌≡◌, ◌<◌, length, set, is_ok, vec_items, sym, refl, ap, ◌∙◌, subst, arith}
+use Rattle.std.proofs.Common.{length, is_ok, vec_items, sym, refl, ap, ◌∙◌, arith}
 use Rattle.std.proofs.lemmas.List.{with_items_is}
 use Rattle.std.proofs.lemmas.Bool.{cond-true}
 use Rattle.store.specs.Entries.{done, got}
 use Rattle.store.specs.Slots.{inside_from_got, put_where_got}
-use Rattle.block.specs.Memory.{fits, block_entries, with_rule}
+use Rattle.block.specs.Memory.{block_entries, with_rule}
 use Rattle.block.specs.Memories.{sized, below_count, room, got_entry, length_with, set_entry}
 use Rattle.block.proofs.block_store.BlockStoreStoring.put.Goals as goal
 

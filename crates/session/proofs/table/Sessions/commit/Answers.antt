@@ -1,8 +1,7 @@
-use Rattle.std.proofs.Common.{◌≡◌, ℕ, Bool, sym, ap, ◌∙◌, arith, rules}
+use Rattle.std.proofs.Common.{◌≡◌, sym, ap, ◌∙◌, arith}
 use Rattle.std.proofs.lemmas.Bool.{cond_below}
 use Rattle.slots.specs.Meaning.{has}
 use Rattle.law.specs.Accounts.{changed}
-use Rattle.calls.specs.State.{Session}
 use Rattle.calls.specs.Effects.{committed, notified}
 use Rattle.tables.proofs.Tables.{upto, upto_all, upto_more}
 use Rattle.session.specs.declared.table.Sessions.{Sessions}

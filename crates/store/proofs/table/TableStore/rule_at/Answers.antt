@@ -1,4 +1,4 @@
-use Rattle.std.proofs.Common.{◌≡◌, ◌<◌, length, vec_items, sym, ap, ◌∙◌, arith}
+use Rattle.std.proofs.Common.{◌<◌, length, vec_items, sym, ap, ◌∙◌, arith}
 use Rattle.store.specs.Entries.{answer}
 use Rattle.store.specs.Table.{row_entry, table_entries}
 use Rattle.store.specs.Slots.{got_outside}

@@ -1,4 +1,4 @@
-use Rattle.std.proofs.Common.{◌≡◌, set, is_ok, vec_items, sym, ap, ◌∙◌, arith}
+use Rattle.std.proofs.Common.{set, is_ok, vec_items, sym, ap, ◌∙◌, arith}
 use Rattle.std.proofs.lemmas.Bool.{cond-true}
 use Rattle.rule.specs.Making.{parts_of}
 use Rattle.store.specs.Entries.{done, got}
