@@ -9,8 +9,8 @@ A bug keeps the shape of the code: another operand, `<` for `<=`, a dropped call
 that the compiler refuses counts as no bug, and another is taken. The results lie in target/planted/NAME.results, a line for each bug:
 crate, function, place, bug, verdict, and the function whose contract was not met any more.
 
-A bug that is NOT REFUSED shows that a contract says too little, or that the edit does not change what the function does; tools/planted_same.txt has those
-that were looked at and found to change nothing, with the reason.
+A bug that is NOT REFUSED shows that a contract says too little, or that the edit does not change what the function does; tools/planted_same.txt, if
+there is one, has those that were looked at and found to change nothing, with the reason.
 
 The bugs are planted in a copy, which takes over what earlier checks proved of the crate there.
 """

@@ -11,14 +11,14 @@ use Rattle.rule.specs.declared.Rule.{Rule}
 use Rattle.block.specs.Layout.{rule_in, rule_at, record_bytes, record_start, all_zero, rules_below, head_right, body_right, damage_of, rewritten}
 use Rattle.block.specs.OneRecord.{length_record, rule_in_record}
 use Rattle.block.specs.Right.{right_from_none, rules_each, rules_from_each}
-use Rattle.block.specs.Sealed.{length_sealed, get_d_sealed, rule_sealed, sealed_right}
+use Rattle.block.specs.Sealed.{length_sealed, index_sealed, rule_sealed, sealed_right}
 
 -- bytes pasted into a list, and the others as they were
-get_d_below : (b bytes : List ℕ) (at k d : ℕ) → at + 12 ≤ length b → length bytes ≡ 12 → k < at → slice_index_or (paste b at bytes 12) k d ≡ slice_index_or b k d
-get_d_below b bytes at k d h e l = search (rules, places)
+index_below : (b bytes : List ℕ) (at k d : ℕ) → at + 12 ≤ length b → length bytes ≡ 12 → k < at → slice_index_or (paste b at bytes 12) k d ≡ slice_index_or b k d
+index_below b bytes at k d h e l = search (rules, places)
 
-get_d_above : (b bytes : List ℕ) (at k d : ℕ) → at + 12 ≤ length b → length bytes ≡ 12 → at + 12 ≤ k → slice_index_or (paste b at bytes 12) k d ≡ slice_index_or b k d
-get_d_above b bytes at k d h e l = grind (arith, places)
+index_above : (b bytes : List ℕ) (at k d : ℕ) → at + 12 ≤ length b → length bytes ≡ 12 → at + 12 ≤ k → slice_index_or (paste b at bytes 12) k d ≡ slice_index_or b k d
+index_above b bytes at k d h e l = grind (arith, places)
 
 part_inside : (b bytes : List ℕ) (at : ℕ) → at + 12 ≤ length b → length bytes ≡ 12 → take 12 (drop at (paste b at bytes 12)) ≡ bytes
 part_inside b bytes at h e =
@@ -52,10 +52,10 @@ pasted b i r = paste b (record_start i) (record_bytes r) 12
 length_pasted : (b : List ℕ) (i : ℕ) (r : Rule) → length b ≡ 512 → i < 32 → length (pasted b i r) ≡ length b
 length_pasted b i r e h = length-paste b (record_start i) (record_bytes r) 12 (omega arith) (omega (arith, length_record r))
 
-get_d_pasted : (b : List ℕ) (i : ℕ) (r : Rule) (k d : ℕ) → length b ≡ 512 → i < 32 → (k < record_start i) ⊎ (record_start i + 12 ≤ k) → slice_index_or (pasted b i r) k d ≡ slice_index_or b k d
-get_d_pasted b i r k d e h away =
-    ⊎_elim (get_d_below b (record_bytes r) (record_start i) k d (omega arith) (length_record r))
-    (get_d_above b (record_bytes r) (record_start i) k d (omega arith) (length_record r)) away
+index_pasted : (b : List ℕ) (i : ℕ) (r : Rule) (k d : ℕ) → length b ≡ 512 → i < 32 → (k < record_start i) ⊎ (record_start i + 12 ≤ k) → slice_index_or (pasted b i r) k d ≡ slice_index_or b k d
+index_pasted b i r k d e h away =
+    ⊎_elim (index_below b (record_bytes r) (record_start i) k d (omega arith) (length_record r))
+    (index_above b (record_bytes r) (record_start i) k d (omega arith) (length_record r)) away
 
 rule_pasted : (b : List ℕ) (i : ℕ) (r : Rule) → length b ≡ 512 → i < 32 → rule_at (pasted b i r) i ≡ Some r
 unfolding rule_at
@@ -71,14 +71,14 @@ apart i j k ne low high = ⊎_elim (λ l. inl (omega arith)) (λ l. inr (omega a
 other_pasted : (b : List ℕ) (i j : ℕ) (r : Rule) → length b ≡ 512 → i < 32 → (j ≢ i) → rule_at (pasted b i r) j ≡ rule_at b j
 unfolding rule_at
 other_pasted b i j r e h ne =
-    ap rule_in (part_same (pasted b i r) b (record_start j) (record_start j + 12 - record_start j) (length_pasted b i r e h) (λ k d low high. get_d_pasted b i r k d e h (apart i j k ne low high)))
+    ap rule_in (part_same (pasted b i r) b (record_start j) (record_start j + 12 - record_start j) (length_pasted b i r e h) (λ k d low high. index_pasted b i r k d e h (apart i j k ne low high)))
 
 head_pasted : (b : List ℕ) (n k i : ℕ) (r : Rule) → length b ≡ 512 → i < 32 → head_right (pasted b i r) n k ≡ head_right b n k
 unfolding head_right
 head_pasted b n k i r e h =
-    let two : get_or (pasted b i r) 2 0 ≡ get_or b 2 0 = get_d_pasted b i r 2 0 e h (inl (omega arith)) in
-    let three : get_or (pasted b i r) 3 0 ≡ get_or b 3 0 = get_d_pasted b i r 3 0 e h (inl (omega arith)) in
-    let zeros : take 12 (drop 4 (pasted b i r)) ≡ take 12 (drop 4 b) = part_same (pasted b i r) b 4 12 (length_pasted b i r e h) (λ j d low high. get_d_pasted b i r j d e h (inl (omega arith))) in
+    let two : get_or (pasted b i r) 2 0 ≡ get_or b 2 0 = index_pasted b i r 2 0 e h (inl (omega arith)) in
+    let three : get_or (pasted b i r) 3 0 ≡ get_or b 3 0 = index_pasted b i r 3 0 e h (inl (omega arith)) in
+    let zeros : take 12 (drop 4 (pasted b i r)) ≡ take 12 (drop 4 b) = part_same (pasted b i r) b 4 12 (length_pasted b i r e h) (λ j d low high. index_pasted b i r j d e h (inl (omega arith))) in
     cc
 
 body_pasted : (b : List ℕ) (k i : ℕ) (r : Rule) → length b ≡ 512 → i < k → k ≤ 32 → body_right b k ≡ true → body_right (pasted b i r) k ≡ true
@@ -87,7 +87,7 @@ body_pasted b k i r e h few right =
     let both = and_parts (rules_below b k) (all_zero (drop (record_start k) b)) right in
     and_from _ _
     (rules_from_each (pasted b i r) k (λ j l. ⊎_elim (λ same. ap (λ m. is_some (rule_at (pasted b i r) m)) same ∙ ap is_some (rule_pasted b i r e (omega arith))) (λ ne. ap is_some (other_pasted b i j r e (omega arith) ne) ∙ rules_each b k both.0 j l) (cases_eq j i)))
-    (ap all_zero (rest_same (pasted b i r) b (record_start k) (length_pasted b i r e (omega arith)) (λ j d low. get_d_pasted b i r j d e (omega arith) (inr (omega arith)))) ∙ both.1)
+    (ap all_zero (rest_same (pasted b i r) b (record_start k) (length_pasted b i r e (omega arith)) (λ j d low. index_pasted b i r j d e (omega arith) (inr (omega arith)))) ∙ both.1)
 
 -- the block with its check written too
 
@@ -105,7 +105,7 @@ other_rewritten b i j r e h ne = rule_sealed (pasted b i r) j ∙ other_pasted b
 
 pub byte_rewritten : (b : List ℕ) (i : ℕ) (r : Rule) (m : ℕ) → length b ≡ 512 → i < 32 → 2 ≤ m → (m < record_start i) ⊎ (record_start i + 12 ≤ m) → slice_index (rewritten b i r) m ≡ slice_index b m
 unfolding rewritten
-byte_rewritten b i r m e h behind away = get_d_sealed (pasted b i r) m behind ∙ get_d_pasted b i r m 0 e h away
+byte_rewritten b i r m e h behind away = index_sealed (pasted b i r) m behind ∙ index_pasted b i r m 0 e h away
 
 pub right_rewritten : (b : List ℕ) (n k i : ℕ) (r : Rule) → length b ≡ 512 → i < k → k ≤ 32 → damage_of b n k ≡ None → damage_of (rewritten b i r) n k ≡ None
 unfolding rewritten

@@ -42,8 +42,8 @@ drop_sealed b (suc (suc m)) h = let e : 2 + m ≡ suc (suc m) = omega arith in d
 at_head : (b : List ℕ) (m : ℕ) → slice_index b m ≡ slice_index (drop m b) 0
 at_head b m = let e : m ≡ m + 0 = omega arith in ap (λ j. slice_index b j) e ∙ sym (get_or-drop m b 0 0)
 
-pub get_d_sealed : (b : List ℕ) (m : ℕ) → 2 ≤ m → slice_index (sealed b) m ≡ slice_index b m
-get_d_sealed b m h = at_head (sealed b) m ∙ ap (λ bytes. slice_index bytes 0) (drop_sealed b m h) ∙ sym (at_head b m)
+pub index_sealed : (b : List ℕ) (m : ℕ) → 2 ≤ m → slice_index (sealed b) m ≡ slice_index b m
+index_sealed b m h = at_head (sealed b) m ∙ ap (λ bytes. slice_index bytes 0) (drop_sealed b m h) ∙ sym (at_head b m)
 
 pub rule_sealed : (b : List ℕ) (i : ℕ) → rule_at (sealed b) i ≡ rule_at b i
 unfolding rule_at
@@ -57,8 +57,8 @@ rules_sealed b (suc k) = ap (λ o. is_some o && rules_below (sealed b) k) (rule_
 pub head_sealed : (b : List ℕ) (n k : ℕ) → head_right (sealed b) n k ≡ head_right b n k
 unfolding head_right
 head_sealed b n k =
-    let two : slice_index_or (sealed b) 2 0 ≡ slice_index_or b 2 0 = get_d_sealed b 2 (omega arith) in
-    let three : slice_index_or (sealed b) 3 0 ≡ slice_index_or b 3 0 = get_d_sealed b 3 (omega arith) in
+    let two : slice_index_or (sealed b) 2 0 ≡ slice_index_or b 2 0 = index_sealed b 2 (omega arith) in
+    let three : slice_index_or (sealed b) 3 0 ≡ slice_index_or b 3 0 = index_sealed b 3 (omega arith) in
     let zeros : drop 4 (sealed b) ≡ drop 4 b = drop_sealed b 4 (omega arith) in
     cc
 

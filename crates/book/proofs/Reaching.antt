@@ -16,8 +16,8 @@ room_reached first _ _ made = room_made first
 room_reached first _ _ (called {h} {b} r c) = room_after b c (room_reached first h b r)
 
 pub reached_more : (first : List Entry) (h : List Event) (b later : State) (c : Call) (a : Answer) → a ≡ answer b c → later ≡ after b c → Reached first h b → Reached first (said c a ∷ h) later
-reached_more first h b later c a said-so left r =
-    subst (λ (x : Answer). Reached first (said c x ∷ h) later) (sym said-so)
+reached_more first h b later c a said_so left r =
+    subst (λ (x : Answer). Reached first (said c x ∷ h) later) (sym said_so)
     (subst (λ (s : State). Reached first (event b c ∷ h) s) (sym left) (called r c))
 
 -- a book just made over a sound store

@@ -181,16 +181,16 @@ forward_right first b a s k inv =
     skip a b s k (queue_full b) _ (λ e. when_cause _ QueueFull e refl) (λ _.
     skip a b s k (later_conflict b s k) _ (λ e. mapped_cause LaterConflict _ e (λ _. refl)) (λ _.
     skip a b s k (pending_conflict b s k) _ (λ e. mapped_cause PendingConflict _ e (λ _. refl)) (λ _.
-    stale-or (opened_is _ (when_none _ (WrongPhase s) ph)) (lowest (count b) (λ x. (work_of b s).read x && noticed (desk_of b s) x)) refl)))))))
+    stale_or (opened_is _ (when_none _ (WrongPhase s) ph)) (lowest (count b) (λ x. (work_of b s).read x && noticed (desk_of b s) x)) refl)))))))
   where
-    stale-or : (work_of b s).phase ≡ opened → (o : Option ℕ) → lowest (count b) (λ x. (work_of b s).read x && noticed (desk_of b s) x) ≡ o
+    stale_or : (work_of b s).phase ≡ opened → (o : Option ℕ) → lowest (count b) (λ x. (work_of b s).read x && noticed (desk_of b s) x) ≡ o
         → RightStep a (step_of (forward s k) (answer_where (option_or (option_map Stale o) (option_or (numbers_exhausted b s) None)) b (forward s k)))
-    stale-or op None e =
+    stale_or op None e =
         cond_both (any_below (count b) (written (work_of b s)) && eqb (b.number + owed (count b) b.queue) last_number)
         (Some NumbersExhausted) None
         (λ o. RightStep a (step_of (forward s k) (answer_where (option_or o None) b (forward s k)))) (λ _. nothing_stale first b a s inv op e)
         (λ _. nothing_stale first b a s inv op e)
-    stale-or op (Some x) e = lowest_stale first b a s inv op x e
+    stale_or op (Some x) e = lowest_stale first b a s inv op x e
 
 -- every call is answered rightly
 pub right_answer : (first : List Entry) (b : State) (a : Account Rule) (c : Call) → Inv first b a → RightStep a (step_of c (answer b c))

@@ -68,55 +68,55 @@ module _ {R : Type 0} where
   mapped_began o (Some e) d q = let h : with_operation o e ≡ d = cc in (e, refl, sym (ap (λ (x : Draft R). x.began) h))
 
   module _ (a : Account R) (places : Places a) where
-    took-later : (s x p : ℕ) → a.taken s x ≡ Some p → p < suc a.place
-    took-later s x p e = let h = places.took s x p e in omega arith
+    took_later : (s x p : ℕ) → a.taken s x ≡ Some p → p < suc a.place
+    took_later s x p e = let h = places.took s x p e in omega arith
 
-    drafted-later : (s : ℕ) (d : Draft R) → a.drafts s ≡ Some d → d.began < suc a.place
-    drafted-later s d e = let h = places.drafted s d e in omega arith
+    drafted_later : (s : ℕ) (d : Draft R) → a.drafts s ≡ Some d → d.began < suc a.place
+    drafted_later s d e = let h = places.drafted s d e in omega arith
 
     pub pause : Places (after passes a)
     pause = record {
       logged = later_log a.place a.replacings places.logged;
-      took = took-later;
-      drafted = drafted-later;
+      took = took_later;
+      drafted = drafted_later;
       begun = later_begun
           a.place a.accepted places.begun;
       ordered = places.ordered;
     }
 
-    more-written : (s : ℕ) (o : Operation R) (t : ℕ) (d : Draft R) → changed s (option_map (with_operation o)) a.drafts t ≡ Some d
+    more_written : (s : ℕ) (o : Operation R) (t : ℕ) (d : Draft R) → changed s (option_map (with_operation o)) a.drafts t ≡ Some d
         → d.began < suc a.place
-    more-written s o t d =
+    more_written s o t d =
         cond_both (eqb t s) (option_map (with_operation o) (a.drafts t)) (a.drafts t) (λ v. v ≡ Some d → d.began < suc a.place)
-        (λ _ e. let m = mapped_began o (a.drafts t) d e in let h = drafted-later t m.0 m.1 in let q = m.2 in omega arith)
-        (λ _ e. drafted-later t d e)
+        (λ _ e. let m = mapped_began o (a.drafts t) d e in let h = drafted_later t m.0 m.1 in let q = m.2 in omega arith)
+        (λ _ e. drafted_later t d e)
 
     none_written : (s t : ℕ) (d : Draft R) → changed s (λ _. None) a.drafts t ≡ Some d → d.began < suc a.place
     none_written s t d =
         cond_both (eqb t s) None (a.drafts t) (λ v. v ≡ Some d → d.began < suc a.place)
-        (λ _ e. absurd (let z : ◌≡◌ {A = ℕ} 0 1 = cc in omega arith)) (λ _ e. drafted-later t d e)
+        (λ _ e. absurd (let z : ◌≡◌ {A = ℕ} 0 1 = cc in omega arith)) (λ _ e. drafted_later t d e)
 
-    joined-begun : (s : ℕ) (k : Key) (o : Option (Draft R)) → ((d : Draft R) → o ≡ Some d → d.began < a.place)
+    joined_begun : (s : ℕ) (k : Key) (o : Option (Draft R)) → ((d : Draft R) → o ≡ Some d → d.began < a.place)
         → AllByRecursion (λ (c : Change R). c.began < suc a.place) (joined_by a.accepted s k o)
-    joined-begun s k None f = later_begun a.place a.accepted places.begun
-    joined-begun s k (Some d) f = (let h = f d refl in omega arith, later_begun a.place a.accepted places.begun)
+    joined_begun s k None f = later_begun a.place a.accepted places.begun
+    joined_begun s k (Some d) f = (let h = f d refl in omega arith, later_begun a.place a.accepted places.begun)
 
-    joined-ordered : (s : ℕ) (k : Key) (o : Option (Draft R)) → Pairwise BeganFirst (joined_by a.accepted s k o)
-    joined-ordered s k None = places.ordered
-    joined-ordered s k (Some d) = (
+    joined_ordered : (s : ℕ) (k : Key) (o : Option (Draft R)) → Pairwise BeganFirst (joined_by a.accepted s k o)
+    joined_ordered s k None = places.ordered
+    joined_ordered s k (Some d) = (
       All-weaker (λ (c : Change R). c.began < a.place) (λ (c : Change R). (p : ℕ) → None ≡ Some p → c.began ≤ p)
           (λ c _ p e. absurd (none_some p e)) a.accepted places.begun,
       places.ordered,
     )
 
     -- committing at this place
-    commit-ordered : (s : ℕ) (cs : List (Change R)) → AllByRecursion (λ (c : Change R). c.began < a.place) cs → Pairwise BeganFirst cs
+    commit_ordered : (s : ℕ) (cs : List (Change R)) → AllByRecursion (λ (c : Change R). c.began < a.place) cs → Pairwise BeganFirst cs
         → Pairwise BeganFirst (map (commit_at s a.place) cs)
-    commit-ordered s [] begun pairs = tt
-    commit-ordered s (c ∷ cs) begun pairs = (
+    commit_ordered s [] begun pairs = tt
+    commit_ordered s (c ∷ cs) begun pairs = (
       All-map (λ (b : Change R). BeganFirst b (commit_at s a.place c)) (commit_at s a.place) cs
           (go cs begun.1 pairs.0),
-      commit-ordered s cs begun.1 pairs.1,
+      commit_ordered s cs begun.1 pairs.1,
     )
       where
         one : (b : Change R) → b.began < a.place → BeganFirst b c → (v : Bool) (p : ℕ) → cond v (Some a.place) c.committed ≡ Some p
@@ -132,10 +132,10 @@ module _ {R : Type 0} where
   pub places_kept : (e : Step R) (a : Account R) → Places a → Places (after e a)
   places_kept (begins s) a places = record {
     logged = later_log a.place a.replacings places.logged;
-    took = took-later a places;
+    took = took_later a places;
     drafted = λ t d. cond_both (eqb t s) (Some (record { began = a.place; ops = [] })) (a.drafts t) (λ v. v ≡ Some d → d.began < suc a.place)
         (λ _ e. let h : record { began = a.place; ops = [] } ≡ d = cc in let q = ap (λ (x : Draft R). x.began) h in omega arith)
-        (λ _ e. drafted-later a places t d e);
+        (λ _ e. drafted_later a places t d e);
     begun = later_begun a.place a.accepted places.begun;
     ordered = places.ordered;
   }
@@ -143,32 +143,32 @@ module _ {R : Type 0} where
     logged = later_log a.place a.replacings places.logged;
     took = λ t y p. cond_both (eqb t s) (changed x (λ _. Some a.place) (a.taken t)) (a.taken t) (λ f. f y ≡ Some p → p < suc a.place)
         (λ _. cond_both (eqb y x) (Some a.place) (a.taken t y) (λ v. v ≡ Some p → p < suc a.place)
-        (λ _ e. let q = same_some a.place p e in omega arith) (λ _ e. took-later a places t y p e))
-        (λ _ e. took-later a places t y p e);
-    drafted = drafted-later a places;
+        (λ _ e. let q = same_some a.place p e in omega arith) (λ _ e. took_later a places t y p e))
+        (λ _ e. took_later a places t y p e);
+    drafted = drafted_later a places;
     begun = later_begun a.place a.accepted places.begun;
     ordered = places.ordered;
   }
   places_kept (reads s x r) a places = record {
     logged = later_log a.place a.replacings places.logged;
-    took = took-later a places;
-    drafted = more-written a places s _;
+    took = took_later a places;
+    drafted = more_written a places s _;
     begun = later_begun a.place a.accepted places.begun;
     ordered = places.ordered;
   }
   places_kept (writes s x r) a places = record {
     logged = later_log a.place a.replacings places.logged;
-    took = took-later a places;
-    drafted = more-written a places s _;
+    took = took_later a places;
+    drafted = more_written a places s _;
     begun = later_begun a.place a.accepted places.begun;
     ordered = places.ordered;
   }
   places_kept (forwards s k accepted) a places = record {
     logged = later_log a.place a.replacings places.logged;
-    took = took-later a places;
+    took = took_later a places;
     drafted = none_written a places s;
-    begun = joined-begun a places s k (a.drafts s) (places.drafted s);
-    ordered = joined-ordered a places s k (a.drafts s);
+    begun = joined_begun a places s k (a.drafts s) (places.drafted s);
+    ordered = joined_ordered a places s k (a.drafts s);
   }
   places_kept (forwards s k (stale x)) a places = pause a places
   places_kept (forwards s k withheld) a places = pause a places
@@ -178,17 +178,17 @@ module _ {R : Type 0} where
         λ t y p. cond_both (eqb t s) (λ (x : ℕ). cond (replaced_by s a.accepted x) (Some a.place) (a.taken t x)) (a.taken t)
         (λ f. f y ≡ Some p → p < suc a.place)
         (λ _. cond_both (replaced_by s a.accepted y) (Some a.place) (a.taken t y) (λ v. v ≡ Some p → p < suc a.place)
-        (λ _ e. let q = same_some a.place p e in omega arith) (λ _ e. took-later a places t y p e))
-        (λ _ e. took-later a places t y p e);
-    drafted = drafted-later a places;
+        (λ _ e. let q = same_some a.place p e in omega arith) (λ _ e. took_later a places t y p e))
+        (λ _ e. took_later a places t y p e);
+    drafted = drafted_later a places;
     begun =
         All-map (λ (c : Change R). c.began < suc a.place) (commit_at s a.place) a.accepted
         (later_begun a.place a.accepted places.begun);
-    ordered = commit-ordered a places s a.accepted places.begun places.ordered;
+    ordered = commit_ordered a places s a.accepted places.begun places.ordered;
   }
   places_kept (strikes s) a places = record {
     logged = later_log a.place a.replacings places.logged;
-    took = took-later a places;
+    took = took_later a places;
     drafted = none_written a places s;
     begun =
         all_kept_by (λ c. not (pending_of s c)) (λ (c : Change R). c.began < suc a.place) a.accepted

@@ -75,5 +75,5 @@ sorted_explains intact first last cs apart fits run =
           reordering_law intact earlier_stamp (λ a b. earlier_once a.key b.key) first last cs (in_stamp_order cs) (stamp_order_reorders cs) fits
           (ascending_fits (in_stamp_order cs) up) run;
       ascending = up;
-      all-of-them = stamp_order_reorders cs;
+      all_of_them = stamp_order_reorders cs;
     }

@@ -9,7 +9,7 @@ module _ {R E : Type 0} (intact : R → E) (first : List E) (last : List E) wher
   pub record ByStamp (changes : List (Change R)) : Type 0 where
     pub explains : Explains intact first (in_stamp_order changes) last
     pub ascending : Ascending (in_stamp_order changes)
-    pub all-of-them : Reordering changes (in_stamp_order changes)
+    pub all_of_them : Reordering changes (in_stamp_order changes)
 
 module _ {R : Type 0} where
   -- a change was committed at an earlier place of the history than another began

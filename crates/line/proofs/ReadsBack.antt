@@ -65,7 +65,7 @@ fields_two f g p q = fields_more f g p ∙ ap (λ l. f ∷ l) (fields_one g q)
 fields_three : (f g h : List ℕ) → Lacks 32 f → Lacks 32 g → Lacks 32 h → fields (f ++ 32 ∷ (g ++ 32 ∷ h)) ≡ f ∷ g ∷ h ∷ []
 fields_three f g h p q r = fields_more f (g ++ 32 ∷ h) p ∙ ap (λ l. f ∷ l) (fields_two g h q r)
 
-module _ {S : Type 0} (reads : List ℕ → Option S) (stamp : S → List ℕ) (back : (x : S) → reads (stamp x) ≡ Some x) (no-space : (x : S) → Lacks 32 (stamp x)) (short : (x : S) → length (stamp x) ≤ 40) where
+module _ {S : Type 0} (reads : List ℕ → Option S) (stamp : S → List ℕ) (back : (x : S) → reads (stamp x) ≡ Some x) (no_space : (x : S) → Lacks 32 (stamp x)) (short : (x : S) → length (stamp x) ≤ 40) where
   cut_line : (bs : List ℕ) (fs : List (List ℕ)) (c : Call S) → length bs ≤ 80 → fields bs ≡ fs → ((end : ℕ) → read_fields reads end (placed 0 fs) ≡ Ok c) → call_of reads bs ≡ Ok c
   cut_line bs fs c h e r =
       let within : ltb 80 (length bs) ≡ false = grind (arith, nat_tests) in
@@ -83,7 +83,7 @@ module _ {S : Type 0} (reads : List ℕ → Option S) (stamp : S → List ℕ) (
   stamp_back : (b : ℕ) (call : S → Call S) (x : S) → Lacks 32 (b ∷ []) → form b ≡ Some (of_stamp call) → call_of reads (b ∷ 32 ∷ stamp x) ≡ Ok (call x)
   stamp_back b call x p e =
       let small : length (b ∷ 32 ∷ stamp x) ≤ 80 = omega (arith, short x) in
-      cut_line (b ∷ 32 ∷ stamp x) _ _ small (fields_two (b ∷ []) (stamp x) p (no-space x))
+      cut_line (b ∷ 32 ∷ stamp x) _ _ small (fields_two (b ∷ []) (stamp x) p (no_space x))
       (λ end. ap (λ φ. read_form reads end φ ((2, stamp x) ∷ [])) e
       ∙ ap (λ o. refuse_or (cond (is_some o) None (Some 2)) (option_map call o) 0) (back x))
 
@@ -102,7 +102,7 @@ module _ {S : Type 0} (reads : List ℕ → Option S) (stamp : S → List ℕ) (
       let x = number_back s h in
       let y = back t in
       let small : length (b ∷ 32 ∷ decimal s ++ 32 ∷ stamp t) ≤ 80 = omega (arith, short_between (decimal s) (stamp t) 32 10 40 (short_number s h) (short t)) in
-      cut_line (b ∷ 32 ∷ decimal s ++ 32 ∷ stamp t) _ _ small (fields_three (b ∷ []) (decimal s) (stamp t) p (no_space_number s h) (no-space t))
+      cut_line (b ∷ 32 ∷ decimal s ++ 32 ∷ stamp t) _ _ small (fields_three (b ∷ []) (decimal s) (stamp t) p (no_space_number s h) (no_space t))
       (λ end. ap (λ φ. read_form reads end φ ((2, decimal s) ∷ (2 + length (decimal s) + 1, stamp t) ∷ [])) e
       ∙ (λ i. refuse_or (cond (is_some (x i)) (cond (is_some (y i)) None (Some (2 + length (decimal s) + 1))) (Some 2)) (and_then (x i) (λ s. option_map (call s) (y i))) 0))
 

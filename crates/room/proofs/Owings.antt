@@ -108,11 +108,11 @@ owed_finished_less n s (q ∷ qs) e = ⊎_elim
     (λ there. omega (arith, owed_step n (finished s q) (map (finished s) qs), owed_step n q qs, part_finished n s q, owed_finished_less n s qs there))
     (or_cases (own_pending s q && any_below n q.written) (owes n s qs) e)
 
-still : (p is-t is-s : Bool) → (p && is-t) ≡ true → is-s ≡ false → ((p && not (p && is-s)) && is-t) ≡ true
+still : (p is_t is_s : Bool) → (p && is_t) ≡ true → is_s ≡ false → ((p && not (p && is_s)) && is_t) ≡ true
 still true true false e f = refl
 still true true true e f = absurd (both_ways true f refl)
-still true false is-s e f = absurd (both_ways false refl e)
-still false is-t is-s e f = absurd (both_ways false refl e)
+still true false is_s e f = absurd (both_ways false refl e)
+still false is_t is_s e f = absurd (both_ways false refl e)
 
 -- another session's entry stays pending
 own_finished : (s t : ℕ) (q : Queued) → (t ≡ s → ⊥) → own_pending t q ≡ true → own_pending t (finished s q) ≡ true

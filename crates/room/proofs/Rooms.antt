@@ -142,9 +142,9 @@ room_commit : (b : State) (s : ℕ) → first_cause (checks b (commit s)) ≡ No
 room_commit b s none r =
     let n = count b in
     let a = (or_none (no_session s) _ none).1 in
-    let is-pend = not-false _ (when_none _ _ (or_none (wrong_phase is_pending b s) _ a).0) in
+    let is_pend = not-false _ (when_none _ _ (or_none (wrong_phase is_pending b s) _ a).0) in
     room_at n (effect b (commit s)) (sym (length_puts n (work_of b s).staged b.entries))
-    (commit_numbers b s is-pend r)
+    (commit_numbers b s is_pend r)
     (λ t. cond_both (eqb t s) (committed (b.sessions t)) (notified (replaced b s) (number_after b s) (b.sessions t)) (Owing n t (map (finished s) b.queue))
     (λ _. not_pending n t (map (finished s) b.queue) (committed (b.sessions t)) refl)
     (λ e p w. owes_finished n s t (eqb-false t s e) b.queue (r.pending t p w)))

@@ -39,12 +39,12 @@ module _ {X Y : Type 0} (cv : X → Call) (av : Y → Answer) (calls : List X) (
   run_more b later i x answers y l is told left r =
       let h = events (map cv (take i calls)) (map av answers) [] in
       let next = map cv (drop (i + 1) calls) in
-      let event-is = ap (λ a. said (cv x) a ∷ h) told in
-      let history-step = at_drop_more (λ cs. history b (map cv cs) h) calls i x l ∙ ap (λ z. history (after b (cv z)) next (event b (cv z) ∷ h)) (sym is) in
-      let final-step = at_drop_more (λ cs. final b (map cv cs)) calls i x l ∙ ap (λ z. final (after b (cv z)) next) (sym is) in
+      let event_is = ap (λ a. said (cv x) a ∷ h) told in
+      let history_step = at_drop_more (λ cs. history b (map cv cs) h) calls i x l ∙ ap (λ z. history (after b (cv z)) next (event b (cv z) ∷ h)) (sym is) in
+      let final_step = at_drop_more (λ cs. final b (map cv cs)) calls i x l ∙ ap (λ z. final (after b (cv z)) next) (sym is) in
       record {
-        past = ap (history later next) (added i x answers y l is r.long) ∙ ap₂ (λ s k. history s next k) left event-is ∙ sym history-step ∙ r.past;
-        rest = ap (λ s. final s next) left ∙ sym final-step ∙ r.rest;
+        past = ap (history later next) (added i x answers y l is r.long) ∙ ap₂ (λ s k. history s next k) left event_is ∙ sym history_step ∙ r.past;
+        rest = ap (λ s. final s next) left ∙ sym final_step ∙ r.rest;
         long = length_push answers y ∙ ap (λ k. k + 1) r.long;
       }
 

@@ -125,7 +125,10 @@ impl PartialEq for SlotSet {
 
     ghost laws = { Keys.partial_equiv_from_equiv (Prim.search (comparing, rules)) };
 
-    fn eq(&self, other: &SlotSet) -> bool {
+    fn eq(&self, other: &SlotSet) -> bool
+        ensures words { result ≡ nat_eq self.now.bits other.now.bits }
+        ensures sets { Decides result (has self.now ≡ has other.now) }
+    {
         self.bits == other.bits
     }
 }

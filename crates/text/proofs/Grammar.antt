@@ -12,6 +12,6 @@ octet_number [] = refl
 octet_number (a ∷ []) = grind (arith, nat_tests)
 octet_number (a ∷ b ∷ []) = grind (arith, nat_tests)
 octet_number (a ∷ b ∷ c ∷ []) =
-    ⊎_elim (λ (one : a ≡ 49). grind (arith, nat_tests)) (λ other. ⊎_elim (λ (two : a ≡ 50). grind (arith, nat_tests)) (λ no-two. grind (arith, nat_tests)) (cases_eq a 50)) (cases_eq a 49)
+    ⊎_elim (λ (one : a ≡ 49). grind (arith, nat_tests)) (λ other. ⊎_elim (λ (two : a ≡ 50). grind (arith, nat_tests)) (λ no_two. grind (arith, nat_tests)) (cases_eq a 50)) (cases_eq a 49)
 octet_number (a ∷ b ∷ c ∷ d ∷ ds) =
     let grows = value_grows (10 * (10 * (10 * (10 * 0 + (a - 48)) + (b - 48)) + (c - 48)) + (d - 48)) ds in grind (arith, nat_tests)

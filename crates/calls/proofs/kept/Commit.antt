@@ -56,33 +56,33 @@ module _ (n : ℕ) (before after' : List Entry) (number raised : ℕ) (log : Lis
       (record { copies = λ x. option_or (staged x) (d.copies x); notices = d.notices; learnt = d.learnt })
   own_desk taken d calm within old ok = record {
     true_copy = λ x r e z. holds x ∙ copied (staged x) (d.copies x) x r z e;
-    inside = λ x h. ⊎_elim (λ w. within x w) (λ w. ok.inside x (was-held x w h)) (cases_Bool (is_some (staged x)));
+    inside = λ x h. ⊎_elim (λ w. within x w) (λ w. ok.inside x (was_held x w h)) (cases_Bool (is_some (staged x)));
     told = λ x h. ⊎_elim
-        (λ w. ap is_some (calm x w) ∙ sym (none_after log s x p old) ∙ sym (own-ignored x (Some p))
+        (λ w. ap is_some (calm x w) ∙ sym (none_after log s x p old) ∙ sym (own_ignored x (Some p))
         ∙ ap (λ v. replaced_since (noted s p slots log) s x (cond v (Some p) (taken x))) (sym (is x ∙ w)))
-        (λ w. ok.told x (was-held x w h) ∙ sym (own-ignored x (taken x))
+        (λ w. ok.told x (was_held x w h) ∙ sym (own_ignored x (taken x))
         ∙ ap (λ v. replaced_since (noted s p slots log) s x (cond v (Some p) (taken x))) (sym (is x ∙ w)))
         (cases_Bool (is_some (staged x)));
     taken_once =
-        λ x h. cond_both (slots x) (Some p) (taken x) (λ o. is_some o ≡ true) (λ _. refl) (λ e. ok.taken_once x (was-held x (sym (is x) ∙ e) h));
+        λ x h. cond_both (slots x) (Some p) (taken x) (λ o. is_some o ≡ true) (λ _. refl) (λ e. ok.taken_once x (was_held x (sym (is x) ∙ e) h));
     not_learnt =
-        λ x k h e. ⊎_elim (λ w. absurd (some_none k (sym e ∙ calm x w))) (λ w. ok.not_learnt x k (was-held x w h) e)
+        λ x k h e. ⊎_elim (λ w. absurd (some_none k (sym e ∙ calm x w))) (λ w. ok.not_learnt x k (was_held x w h) e)
         (cases_Bool (is_some (staged x)));
     within = λ x k e. let le = ok.within x k e in omega arith;
     learnt_within = let le = ok.learnt_within in omega arith;
   }
     where
-      was-held : (x : ℕ) → is_some (staged x) ≡ false → is_some (option_or (staged x) (d.copies x)) ≡ true → held d x ≡ true
-      was-held x w h = ap (λ o. is_some (option_or o (d.copies x))) (sym (none_is (staged x) w)) ∙ h
+      was_held : (x : ℕ) → is_some (staged x) ≡ false → is_some (option_or (staged x) (d.copies x)) ≡ true → held d x ≡ true
+      was_held x w h = ap (λ o. is_some (option_or o (d.copies x))) (sym (none_is (staged x) w)) ∙ h
 
       copied : (o c : Option Rule) (x : ℕ) (r : Rule) → d.notices x ≡ None → option_or o (d.copies x) ≡ Some r
           → over Intact o (slice_get before x) ≡ Some (Intact r)
       copied None c x r z e = ok.true_copy x r e z
       copied (Some q) c x r z e = let same : q ≡ r = cc in ap (λ y. Some (Intact y)) same
 
-      own-ignored : (x : ℕ) (o : Option ℕ) → replaced_since (noted s p slots log) s x o ≡ replaced_since log s x o
-      own-ignored x None = refl
-      own-ignored x (Some q) = ap (λ v. (not v && (slots x && ltb q p)) || replaced_after log s x q) (eq-eqb s s refl)
+      own_ignored : (x : ℕ) (o : Option ℕ) → replaced_since (noted s p slots log) s x o ≡ replaced_since log s x o
+      own_ignored x None = refl
+      own_ignored x (Some q) = ap (λ v. (not v && (slots x && ltb q p)) || replaced_after log s x q) (eq-eqb s s refl)
 
   -- another session
   other_desk : (t : ℕ) → (t ≡ s → ⊥) → (taken : ℕ → Option ℕ) (d : Desk) → ((x : ℕ) → is_some (staged x) ≡ true → number < raised)
@@ -100,9 +100,9 @@ module _ (n : ℕ) (before after' : List Entry) (number raised : ℕ) (log : Lis
     inside = ok.inside;
     told = λ x h.
         let tk = some_is (taken x) (ok.taken_once x h) in
-        noticed-is (is_some (staged x)) (held d x) (d.notices x) h
+        noticed_is (is_some (staged x)) (held d x) (d.notices x) h
         ∙ ap (λ v. is_some (staged x) || v) (ok.told x h ∙ ap (replaced_since log t x) tk.1)
-        ∙ ap (λ v. v || replaced_after log t x tk.0) (sym (other-counts x tk.0 (took x tk.0 tk.1)))
+        ∙ ap (λ v. v || replaced_after log t x tk.0) (sym (other_counts x tk.0 (took x tk.0 tk.1)))
         ∙ ap (replaced_since (noted s p slots log) t x) (sym tk.1);
     taken_once = ok.taken_once;
     not_learnt = λ x k h. cond_both (is_some (staged x) && held d x) (Some raised) (d.notices x) (λ o. o ≡ Some k → d.learnt < k)
@@ -113,12 +113,12 @@ module _ (n : ℕ) (before after' : List Entry) (number raised : ℕ) (log : Lis
     learnt_within = let le = ok.learnt_within in omega arith;
   }
     where
-      noticed-is : (v h : Bool) (o : Option ℕ) → h ≡ true → is_some (cond (v && h) (Some raised) o) ≡ (v || is_some o)
-      noticed-is true h o e = ap (λ z. is_some (cond z (Some raised) o)) e
-      noticed-is false h o e = refl
+      noticed_is : (v h : Bool) (o : Option ℕ) → h ≡ true → is_some (cond (v && h) (Some raised) o) ≡ (v || is_some o)
+      noticed_is true h o e = ap (λ z. is_some (cond z (Some raised) o)) e
+      noticed_is false h o e = refl
 
-      other-counts : (x q : ℕ) → q < p → (not (eqb s t) && (slots x && ltb q p)) ≡ is_some (staged x)
-      other-counts x q lt =
+      other_counts : (x q : ℕ) → q < p → (not (eqb s t) && (slots x && ltb q p)) ≡ is_some (staged x)
+      other_counts x q lt =
           ap (λ v. not v && (slots x && ltb q p)) (ne_eqb s t (λ e. ne (sym e))) ∙ ap (λ v. slots x && v) (lt-ltb q p lt) ∙ last (slots x) ∙ is x
         where
           last : (v : Bool) → (v && true) ≡ v

@@ -197,15 +197,15 @@ module _ (first : List Entry) (b : State) (a : Account Rule) (s : ℕ) (k : Key)
   entry_clear : (c : Change Rule) (q : Queued) → Matches c q → Free b s k q → q.pending ≡ true → (x : ℕ) → wrote c.ops x ≡ true
       → touched draft.ops x ≡ true → ⊥
   entry_clear c q m free p x w t =
-      apart (count b) q.written (work_of b s).read (no-meet (earlier k q.key) refl) x (within x (touches_read x t)) (m.writes x ∙ w)
+      apart (count b) q.written (work_of b s).read (no_meet (earlier k q.key) refl) x (within x (touches_read x t)) (m.writes x ∙ w)
       (touches_read x t)
     where
-      no-meet : (v : Bool) → earlier k q.key ≡ v → meets (count b) q.written (work_of b s).read ≡ false
-      no-meet true e =
+      no_meet : (v : Bool) → earlier k q.key ≡ v → meets (count b) q.written (work_of b s).read ≡ false
+      no_meet true e =
           (or_parts _ _
           (ap (λ v. v && (meets (count b) q.written (work_of b s).read || meets (count b) q.read (written (work_of b s)))) (sym e)
           ∙ free.no_later)).0
-      no-meet false e =
+      no_meet false e =
           let up : earlier q.key k ≡ true = earlier_other_way k q.key (same_flip q.key k free.new_stamp) e in
           ap (λ v. v && meets (count b) q.written (work_of b s).read) (sym up)
           ∙ ap (λ v. v && (earlier q.key k && meets (count b) q.written (work_of b s).read)) (sym p)

@@ -49,11 +49,11 @@ write_ok first b a s x r inv clear =
                 λ y. by_number (λ v. is_some (cond v (Some r) (latest t.ops y)) ≡ true → has_read t.ops y ≡ true) y x
                 (λ z _. ap (has_read t.ops) z ∙ sym (ok.reads x) ∙ seen) (λ _ h. ok.written_read y h);
             read_held = ok.read_held;
-            right = (as-held ((desk_of b s).copies x) has, ok.right);
+            right = (as_held ((desk_of b s).copies x) has, ok.right);
           });
       places = places_kept (writes s x r) a inv.places;
     }
   where
-    as-held : (o : Option Rule) → is_some o ≡ true → is_some (option_map Intact o) ≡ true
-    as-held None e = e
-    as-held (Some q) e = refl
+    as_held : (o : Option Rule) → is_some o ≡ true → is_some (option_map Intact o) ≡ true
+    as_held None e = e
+    as_held (Some q) e = refl

@@ -2,5 +2,5 @@ use Rattle.std.proofs.Common.{rules}
 use Rattle.slots.proofs.WordSets.{equal_decides}
 use Rattle.slots.proofs.SlotSetPartialEq.eq.Goals as goal
 
-pub returns : goal.returns
-returns c = search (rules, equal_decides)
+pub returns-clause-sets : goal.returns-clause-sets
+returns-clause-sets c = search (rules, equal_decides)
