@@ -4,8 +4,9 @@
 usage: tools/spelling.py          at the top of the checkout: rewrites crates/*/{src,specs,proofs,must-fail} in place
        tools/spelling.py --list   prints each old name beside its new one, and names that fall together
 
-A name is respelled where it is declared in a file of specs/ or in a lemma file of proofs/ (not in the files of one
-function's proof, whose names come from the source). Comments, strings and the names of functions stay as they are.
+A name is respelled where it is declared or bound in a file of specs/ or in a lemma file of proofs/ (not in the files of
+one function's proof, whose names come from the source). Comments, strings, the names of functions and those of the library
+stay as they are.
 """
 import glob
 import os
@@ -17,8 +18,9 @@ DECLARED = re.compile(r"^( {0,2})(?:unfoldable )?(?:abbrev )?(?:pub )?(?:abbrev 
 CASE = re.compile(r"^  (?:pub )?([a-z][\w'-]*) :(?: |$)", re.M)
 TOKEN = re.compile(r"(?<![\w'-])[A-Za-z_][\w']*(?:-[\w'*]+)*(?![\w'-])")
 TYPES = {"Short-behind": "ShortBehind", "Some-field": "SomeField"}
-# lemmas that would fall together with words of the library, and aliases of modules
-MORE = {"bit-and": "bit_at_and", "bit-or": "bit_at_or", "protocol-calls": "protocol_calls", "protocol-answers": "protocol_answers"}
+# lemmas that would fall together with words of the library, lemmas named by a word that the library no longer has, and aliases
+MORE = {"bit-and": "bit_at_and", "bit-or": "bit_at_or", "getD-below": "index_below", "getD-above": "index_above", "getD-pasted": "index_pasted", "getD-sealed": "index_sealed",
+        "is-pending-change": "is_pending_change", "protocol-calls": "protocol_calls", "protocol-answers": "protocol_answers"}
 
 
 def files(*patterns):
@@ -53,6 +55,22 @@ def table():
     return names, declared
 
 
+def imported():
+    """The names that stand in a use line; those that are no names of this repository stay as they are."""
+    found = set()
+    for path in files("specs/**/*.antt", "proofs/**/*.antt", "src/**/*.rt"):
+        for line in re.findall(r"^(?:ghost )?use [^{]*\{(.*?)\}", read(path), re.M | re.S):
+            found.update(name.strip().split(" as ")[0] for name in line.split(","))
+    return found
+
+
+def bound(names, kept, code):
+    """A line of a lemma or a definition with the names that it binds respelled."""
+    if code.startswith("use "):
+        return code
+    return TOKEN.sub(lambda m: m[0] if m[0] in kept or m[0] in names or not m[0][0].islower() else m[0].replace("-", "_"), code)
+
+
 def code_only(text, mark, turn):
     """The text with turn applied to what is neither a comment nor a string."""
     out = []
@@ -84,10 +102,14 @@ def main():
                 if names[old] in words:
                     print("BOTH IN", path, old, names[old])
         return
+    kept = imported()
     turn = lambda code: TOKEN.sub(lambda m: names.get(m[0], m[0]), code)
     for path in files("specs/**/*.antt", "proofs/**/*.antt", "src/**/*.rt", "must-fail/*.edit"):
         text = read(path)
-        new = code_only(text, "--" if path.endswith(".antt") else "//", turn)
+        if path.endswith(".antt") and os.path.basename(path) not in OF_ONE_FUNCTION:
+            new = code_only(text, "--", lambda code: turn(bound(names, kept, code)))
+        else:
+            new = code_only(text, "--" if path.endswith(".antt") else "//", turn)
         if path.endswith(".edit"):
             # an edit of a definition is respelled, one of the source names no definition
             new = code_only(text, "\0", turn) if re.search(r"^file: (specs|proofs)/", text, re.M) else text
