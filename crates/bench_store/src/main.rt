@@ -15,7 +15,7 @@ const SLOTS: u32 = 64;
 
 // Some rule, another one for each round.
 fn some_rule(round: u32) -> Result<Rule, Refusal> {
-    Rule::from_parts(Parts {
+    Rule::try_from(Parts {
         address: round.wrapping_mul(256),
         prefix: 24,
         action: (round % 2) as u8,
@@ -27,7 +27,7 @@ fn some_rule(round: u32) -> Result<Rule, Refusal> {
 fn gets(store: &mut BlockStore, rounds: u32) -> Result<u64, Refusal> {
     let mut sum = 0u64;
     for round in 0..rounds {
-        let parts = store.get(round.wrapping_mul(11) % SLOTS)?.parts();
+        let parts = Parts::from(store.get(round.wrapping_mul(11) % SLOTS)?);
         sum = sum.wrapping_add(u64::from(parts.first) + u64::from(parts.address));
     }
     Ok(sum)
@@ -55,18 +55,11 @@ fn main(rt: HostRuntime) -> anyhow::Result<()> {
     let [what, rounds] = words.as_slice() else {
         return Err(anyhow!("bench_store gets ROUNDS, bench_store puts ROUNDS"));
     };
-    let Ok(size) = memory_size(SLOTS) else {
-        return Err(anyhow!("no memory size"));
-    };
-    let mut bytes = vec![in heap; 0u8; size]?;
-    if format(bytes.as_mut_slice(), SLOTS).is_err() {
-        return Err(anyhow!("not formatted"));
-    }
+    let mut bytes = vec![in heap; 0u8; memory_size(SLOTS)?]?;
+    format(&mut bytes, SLOTS)?;
     let mut store = BlockStore::new(bytes, SLOTS);
     let rounds = rounds.parse::<u32>()?;
-    match run(&mut store, what.as_str(), rounds) {
-        Ok(sum) => println!(rt; "{what} {rounds} {sum}")?,
-        Err(refusal) => println!(rt; "refused {refusal}")?,
-    }
+    let sum = run(&mut store, what, rounds)?;
+    println!(rt; "{what} {rounds} {sum}")?;
     Ok(())
 }

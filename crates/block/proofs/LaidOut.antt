@@ -1,19 +1,16 @@
 -- A block of rules that is laid out reads back as those rules. Assumes nothing.
 use Rattle.std.proofs.Common.{◌≡◌, ℕ, zero, suc, ◌+◌, ◌-◌, ◌*◌, ◌<◌, ◌≤◌, true, List, [], ◌∷◌, ◌++◌, length, get_or, take, drop, replicate, is_some, Some, None, sym, refl, ap, ◌∙◌, arith, length-append}
-use borrow.Rule.Slice.PartMut.{put_mid}
 use lib.ListN.{length-replicate}
 use Rattle.std.specs.List.{flat_map, AllByRecursion}
 use lib.Seq.{paste}
-use Rattle.std.proofs.ByRecursion.{All-append}
 use Rattle.std.proofs.lemmas.List.{drop-drop, drop_at, take_at, drop-replicate, flat_map_more, replicate_more, length_push, take_all}
 use Rattle.std.proofs.lemmas.Bool.{and_from, eq-eqb}
 use Rattle.rule.specs.declared.Rule.{Rule}
 use Rattle.rule.specs.Making.{parts_of, facts, open_rule}
 use Rattle.rule.proofs.Rules.{rule_makes}
-use Rattle.block.specs.Layout.{rule_in, rule_at, record_bytes, record_start, all_zero, head_right, body_right, damage_of, with_check, sealed, laid_out, WrittenReadsBack}
+use Rattle.block.specs.Layout.{rule_in, rule_at, record_bytes, record_start, with_record, all_zero, head_right, body_right, damage_of, with_check, sealed, laid_out, WrittenReadsBack}
 use Rattle.block.specs.OneRecord.{length_record, rule_in_record}
 use Rattle.block.specs.Right.{rules_from_each}
-use Rattle.block.specs.Rewritten.{record_pasted}
 use Rattle.block.specs.Sealed.{length_sealed, rule_sealed, sealed_right}
 
 -- the bytes behind the head
@@ -99,9 +96,13 @@ bytes_record r =
     let known = (facts (parts_of r) (rule_makes r)).known in
     (omega arith, (omega arith, (omega arith, (omega arith, (omega (arith, r.short), (omega (arith, known), (omega arith, (omega arith, (omega arith, (omega arith, (omega arith, (omega arith, tt))))))))))))
 
+bytes_append : (xs ys : List ℕ) → Bytes xs → Bytes ys → Bytes (xs ++ ys)
+bytes_append [] ys left right = right
+bytes_append (x ∷ xs) ys left right = (left.0, bytes_append xs ys left.1 right)
+
 bytes_joined : (rules : List Rule) → Bytes (flat_map record_bytes rules)
 bytes_joined [] = tt
-bytes_joined (r ∷ rules) = All-append (λ byte. byte < 256) (record_bytes r) (flat_map record_bytes rules) (bytes_record r) (bytes_joined rules)
+bytes_joined (r ∷ rules) = bytes_append (record_bytes r) (flat_map record_bytes rules) (bytes_record r) (bytes_joined rules)
 
 bytes_zeros : (m : ℕ) → Bytes (replicate m 0)
 bytes_zeros zero = tt
@@ -110,8 +111,8 @@ bytes_zeros (suc m) = (omega arith, bytes_zeros m)
 pub bytes_laid : (n : ℕ) (rules : List Rule) → n < 256 → length rules ≤ 32 → Bytes (laid_out n rules)
 unfolding laid_out with_check
 bytes_laid n rules small few =
-    let body = All-append (λ byte. byte < 256) (flat_map record_bytes rules) (replicate (496 - 12 * length rules) 0) (bytes_joined rules) (bytes_zeros (496 - 12 * length rules)) in
-    (omega arith, (omega arith, (small, (omega arith, All-append (λ byte. byte < 256) (replicate 12 0) _ (bytes_zeros 12) body))))
+    let body = bytes_append (flat_map record_bytes rules) (replicate (496 - 12 * length rules) 0) (bytes_joined rules) (bytes_zeros (496 - 12 * length rules)) in
+    (omega arith, (omega arith, (small, (omega arith, bytes_append (replicate 12 0) _ (bytes_zeros 12) body))))
 
 pub written_reads_back : WrittenReadsBack
 written_reads_back n rules small few = record { size = length_laid n rules few; bytes = bytes_laid n rules small few; right = right_laid n rules; reads = rule_laid n rules }
@@ -134,19 +135,18 @@ fewer_zeros rules r =
     let fewer : 496 - 12 * length rules - 12 ≡ 496 - 12 * length (rules ++ r ∷ []) = omega (arith, length_push rules r) in
     drop-replicate {X = ℕ} 12 (496 - 12 * length rules) 0 ∙ ap (λ m. replicate m 0) fewer
 
-pub unsealed_more : (n k : ℕ) (rules : List Rule) (r : Rule) → paste (unsealed n k rules) (record_start (length rules)) (record_bytes r) 12 ≡ unsealed n k (rules ++ r ∷ [])
+pub unsealed_more : (n k : ℕ) (rules : List Rule) (r : Rule) → with_record (unsealed n k rules) (length rules) r ≡ unsealed n k (rules ++ r ∷ [])
 unsealed_more n k rules r =
     let all = length_joined rules in
     paste_at (front n k (flat_map record_bytes rules)) (replicate (496 - 12 * length rules) 0) (record_bytes r) (record_start (length rules)) (omega arith) (length_record r)
     ∙ ap (λ records. front n k (records ++ drop 12 (replicate (496 - 12 * length rules) 0))) (flat_map_more record_bytes [] rules r)
     ∙ ap (λ zeros. front n k (flat_map record_bytes (rules ++ r ∷ []) ++ zeros)) (fewer_zeros rules r)
 
--- the same with i open rules, as a copy leaves it
-pub unsealed_copied : (n k i : ℕ) (b bytes : List ℕ) → b ≡ unsealed n k (replicate i open_rule) → bytes ≡ record_bytes open_rule → put_mid (record_start i) (record_start i + 12 - record_start i) b bytes ≡ unsealed n k (replicate (i + 1) open_rule)
-unsealed_copied n k i b bytes inv e =
-    record_pasted b bytes i open_rule e
-    ∙ ap (λ l. paste l (record_start i) (record_bytes open_rule) 12) inv
-    ∙ ap (λ m. paste (unsealed n k (replicate i open_rule)) (record_start m) (record_bytes open_rule) 12) (sym (length-replicate i open_rule))
+-- the same with i open rules
+pub unsealed_open : (n k i : ℕ) (b : List ℕ) → b ≡ unsealed n k (replicate i open_rule) → with_record b i open_rule ≡ unsealed n k (replicate (i + 1) open_rule)
+unsealed_open n k i b inv =
+    ap (λ l. with_record l i open_rule) inv
+    ∙ ap (λ m. with_record (unsealed n k (replicate i open_rule)) m open_rule) (sym (length-replicate i open_rule))
     ∙ unsealed_more n k (replicate i open_rule) open_rule
     ∙ ap (unsealed n k) (replicate_more i open_rule)
 

@@ -2,6 +2,7 @@
 -- Below b is the list of a block's bytes, n the number of the block, and k the number of its slots. Assumes nothing.
 use Rattle.std.specs.Prelude.{◌≡◌, ℕ, zero, suc, ◌+◌, ◌-◌, ◌*◌, ◌/◌, ◌%◌, ◌<◌, ◌≤◌, Bool, true, cond, not, ◌&&◌, List, [], ◌∷◌, ◌++◌, length, drop, replicate, is_some, Some, None, Option, ◌==◌, slice_index, slice_index_or}
 use Rattle.std.specs.List.{between, flat_map, AllByRecursion}
+use Rattle.std.specs.Simd.{first_chunks}
 use Rattle.std.proofs.Math.Seq.{paste}
 use Rattle.refusal.specs.declared.Fault.{Fault}
 use Rattle.refusal.specs.declared.Fault.TheVariants.{Check, Head, Record}
@@ -44,6 +45,10 @@ record_bytes r = bytes_of (parts_of r)
 abbrev pub record_start : ℕ → ℕ
 record_start i = 16 + 12 * i
 
+-- the bytes behind the head, twelve by twelve
+unfoldable pub records_in : List ℕ → List (List ℕ)
+records_in b = first_chunks 12 41 (drop 16 b)
+
 -- the rule in record i of a block, if it holds one
 unfoldable pub rule_at : List ℕ → ℕ → Option Rule
 rule_at b i = rule_in (between (record_start i) (record_start i + 12) b)
@@ -85,9 +90,13 @@ with_check bytes = word_bytes (check bytes) ++ bytes
 unfoldable pub sealed : List ℕ → List ℕ
 sealed b = with_check (drop 2 b)
 
--- a block with the bytes of a rule for record i and its check written anew
+-- a block with the bytes of a rule for record i, and with its check as it was
+abbrev pub with_record : List ℕ → ℕ → Rule → List ℕ
+with_record b i r = paste b (record_start i) (record_bytes r) 12
+
+-- the same with its check written anew
 unfoldable pub rewritten : List ℕ → ℕ → Rule → List ℕ
-rewritten b i r = sealed (paste b (record_start i) (record_bytes r) 12)
+rewritten b i r = sealed (with_record b i r)
 
 -- the block n with these rules
 unfoldable pub laid_out : ℕ → List Rule → List ℕ

@@ -41,11 +41,19 @@ checked k size = cond (fits k size) (Ok tt) (Err WrongSize)
 abbrev pub block_at : List ℕ → ℕ → List ℕ
 block_at bytes n = between (512 * n) (512 * n + 512) bytes
 
--- a damaged block damages all its slots; in another one each record below the number of slots holds a rule
+-- the rule in a record of a block, or what is wrong with the block; in a block without damage each record below the number of slots holds a rule
+abbrev pub read_in : Option Fault → Option Rule → Result Rule Fault
+read_in (Some fault) rule = Err fault
+read_in None (Some rule) = Ok rule
+read_in None None = Err Record
+
+-- a damaged block damages all its slots
+abbrev pub entry_from : Result Rule Fault → ℕ → Entry
+entry_from (Ok rule) n = Intact rule
+entry_from (Err fault) n = Broken (record { fault = fault; block = n })
+
 abbrev pub entry_in : Option Fault → Option Rule → ℕ → Entry
-entry_in (Some fault) rule n = Broken (record { fault = fault; block = n })
-entry_in None (Some rule) n = Intact rule
-entry_in None None n = Broken (record { fault = Record; block = n })
+entry_in fault rule n = entry_from (read_in fault rule) n
 
 -- slot x is record x % 32 of block x / 32
 unfoldable pub entry_at : List ℕ → ℕ → ℕ → Entry

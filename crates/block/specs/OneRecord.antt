@@ -48,7 +48,7 @@ rule_in_record r =
     rule_in_made (record_bytes r) refl
     ∙ make_parts r (parts_in (record_bytes r)) (sym (parts_back (parts_of r) r.wide (omega (arith, r.rising, r.port)) r.port))
 
--- `from_parts(..).ok()` is `make`
+-- `Rule::try_from(..).ok()` is `make`
 ok_part : {X Y : Type 0} (o : Option X) (e : Y) → result_ok (ok_or o e) ≡ o
 ok_part None e = refl
 ok_part (Some x) e = refl

@@ -8,7 +8,7 @@ use Rattle.std.proofs.lemmas.List.{places, append_assoc, same_lists, take_all, t
 use Rattle.std.proofs.lemmas.Slice.{put_mid-paste}
 use Rattle.std.proofs.lemmas.Bool.{cases_eq, cases_lt, and_parts, and_from}
 use Rattle.rule.specs.declared.Rule.{Rule}
-use Rattle.block.specs.Layout.{rule_in, rule_at, record_bytes, record_start, all_zero, rules_below, head_right, body_right, damage_of, rewritten}
+use Rattle.block.specs.Layout.{rule_in, rule_at, record_bytes, record_start, with_record, all_zero, rules_below, head_right, body_right, damage_of, rewritten}
 use Rattle.block.specs.OneRecord.{length_record, rule_in_record}
 use Rattle.block.specs.Right.{right_from_none, rules_each, rules_from_each}
 use Rattle.block.specs.Sealed.{length_sealed, index_sealed, rule_sealed, sealed_right}
@@ -42,73 +42,69 @@ rest_same a b from e each =
     (λ k d h. get_or-drop from a k d ∙ each (from + k) d (omega arith) ∙ sym (get_or-drop from b k d))
 
 -- what a copy into the place of record i leaves
-pub record_pasted : (b bytes : List ℕ) (i : ℕ) (r : Rule) → bytes ≡ record_bytes r → put_mid (record_start i) (record_start i + 12 - record_start i) b bytes ≡ paste b (record_start i) (record_bytes r) 12
+pub record_pasted : (b bytes : List ℕ) (i : ℕ) (r : Rule) → bytes ≡ record_bytes r → put_mid (record_start i) (record_start i + 12 - record_start i) b bytes ≡ with_record b i r
 record_pasted b bytes i r e = put_mid-paste (record_start i) _ b bytes (record_bytes r) 12 e (omega arith) (sym (length_record r))
 
--- the block with the record written and the old check
-abbrev pasted : List ℕ → ℕ → Rule → List ℕ
-pasted b i r = paste b (record_start i) (record_bytes r) 12
-
-length_pasted : (b : List ℕ) (i : ℕ) (r : Rule) → length b ≡ 512 → i < 32 → length (pasted b i r) ≡ length b
+length_pasted : (b : List ℕ) (i : ℕ) (r : Rule) → length b ≡ 512 → i < 32 → length (with_record b i r) ≡ length b
 length_pasted b i r e h = length-paste b (record_start i) (record_bytes r) 12 (omega arith) (omega (arith, length_record r))
 
-index_pasted : (b : List ℕ) (i : ℕ) (r : Rule) (k d : ℕ) → length b ≡ 512 → i < 32 → (k < record_start i) ⊎ (record_start i + 12 ≤ k) → slice_index_or (pasted b i r) k d ≡ slice_index_or b k d
+index_pasted : (b : List ℕ) (i : ℕ) (r : Rule) (k d : ℕ) → length b ≡ 512 → i < 32 → (k < record_start i) ⊎ (record_start i + 12 ≤ k) → slice_index_or (with_record b i r) k d ≡ slice_index_or b k d
 index_pasted b i r k d e h away =
     ⊎_elim (index_below b (record_bytes r) (record_start i) k d (omega arith) (length_record r))
     (index_above b (record_bytes r) (record_start i) k d (omega arith) (length_record r)) away
 
-rule_pasted : (b : List ℕ) (i : ℕ) (r : Rule) → length b ≡ 512 → i < 32 → rule_at (pasted b i r) i ≡ Some r
+rule_pasted : (b : List ℕ) (i : ℕ) (r : Rule) → length b ≡ 512 → i < 32 → rule_at (with_record b i r) i ≡ Some r
 unfolding rule_at
 rule_pasted b i r e h =
     let twelve : record_start i + 12 - record_start i ≡ 12 = omega arith in
-    ap (λ n. rule_in (take n (drop (record_start i) (pasted b i r)))) twelve
+    ap (λ n. rule_in (take n (drop (record_start i) (with_record b i r)))) twelve
     ∙ ap rule_in (part_inside b (record_bytes r) (record_start i) (omega arith) (length_record r))
     ∙ rule_in_record r
 
 apart : (i j k : ℕ) → (j ≢ i) → record_start j ≤ k → k < record_start j + (record_start j + 12 - record_start j) → (k < record_start i) ⊎ (record_start i + 12 ≤ k)
 apart i j k ne low high = ⊎_elim (λ l. inl (omega arith)) (λ l. inr (omega arith)) (cases_lt j i)
 
-other_pasted : (b : List ℕ) (i j : ℕ) (r : Rule) → length b ≡ 512 → i < 32 → (j ≢ i) → rule_at (pasted b i r) j ≡ rule_at b j
+other_pasted : (b : List ℕ) (i j : ℕ) (r : Rule) → length b ≡ 512 → i < 32 → (j ≢ i) → rule_at (with_record b i r) j ≡ rule_at b j
 unfolding rule_at
 other_pasted b i j r e h ne =
-    ap rule_in (part_same (pasted b i r) b (record_start j) (record_start j + 12 - record_start j) (length_pasted b i r e h) (λ k d low high. index_pasted b i r k d e h (apart i j k ne low high)))
+    ap rule_in (part_same (with_record b i r) b (record_start j) (record_start j + 12 - record_start j) (length_pasted b i r e h) (λ k d low high. index_pasted b i r k d e h (apart i j k ne low high)))
 
-head_pasted : (b : List ℕ) (n k i : ℕ) (r : Rule) → length b ≡ 512 → i < 32 → head_right (pasted b i r) n k ≡ head_right b n k
+head_pasted : (b : List ℕ) (n k i : ℕ) (r : Rule) → length b ≡ 512 → i < 32 → head_right (with_record b i r) n k ≡ head_right b n k
 unfolding head_right
 head_pasted b n k i r e h =
-    let two : get_or (pasted b i r) 2 0 ≡ get_or b 2 0 = index_pasted b i r 2 0 e h (inl (omega arith)) in
-    let three : get_or (pasted b i r) 3 0 ≡ get_or b 3 0 = index_pasted b i r 3 0 e h (inl (omega arith)) in
-    let zeros : take 12 (drop 4 (pasted b i r)) ≡ take 12 (drop 4 b) = part_same (pasted b i r) b 4 12 (length_pasted b i r e h) (λ j d low high. index_pasted b i r j d e h (inl (omega arith))) in
+    let two : get_or (with_record b i r) 2 0 ≡ get_or b 2 0 = index_pasted b i r 2 0 e h (inl (omega arith)) in
+    let three : get_or (with_record b i r) 3 0 ≡ get_or b 3 0 = index_pasted b i r 3 0 e h (inl (omega arith)) in
+    let zeros : take 12 (drop 4 (with_record b i r)) ≡ take 12 (drop 4 b) = part_same (with_record b i r) b 4 12 (length_pasted b i r e h) (λ j d low high. index_pasted b i r j d e h (inl (omega arith))) in
     cc
 
-body_pasted : (b : List ℕ) (k i : ℕ) (r : Rule) → length b ≡ 512 → i < k → k ≤ 32 → body_right b k ≡ true → body_right (pasted b i r) k ≡ true
+body_pasted : (b : List ℕ) (k i : ℕ) (r : Rule) → length b ≡ 512 → i < k → k ≤ 32 → body_right b k ≡ true → body_right (with_record b i r) k ≡ true
 unfolding body_right
 body_pasted b k i r e h few right =
     let both = and_parts (rules_below b k) (all_zero (drop (record_start k) b)) right in
     and_from _ _
-    (rules_from_each (pasted b i r) k (λ j l. ⊎_elim (λ same. ap (λ m. is_some (rule_at (pasted b i r) m)) same ∙ ap is_some (rule_pasted b i r e (omega arith))) (λ ne. ap is_some (other_pasted b i j r e (omega arith) ne) ∙ rules_each b k both.0 j l) (cases_eq j i)))
-    (ap all_zero (rest_same (pasted b i r) b (record_start k) (length_pasted b i r e (omega arith)) (λ j d low. index_pasted b i r j d e (omega arith) (inr (omega arith)))) ∙ both.1)
+    (rules_from_each (with_record b i r) k (λ j l. ⊎_elim (λ same. ap (λ m. is_some (rule_at (with_record b i r) m)) same ∙ ap is_some (rule_pasted b i r e (omega arith))) (λ ne. ap is_some (other_pasted b i j r e (omega arith) ne) ∙ rules_each b k both.0 j l) (cases_eq j i)))
+    (ap all_zero (rest_same (with_record b i r) b (record_start k) (length_pasted b i r e (omega arith)) (λ j d low. index_pasted b i r j d e (omega arith) (inr (omega arith)))) ∙ both.1)
 
 -- the block with its check written too
 
 pub length_rewritten : (b : List ℕ) (i : ℕ) (r : Rule) → length b ≡ 512 → i < 32 → length (rewritten b i r) ≡ 512
 unfolding rewritten
-length_rewritten b i r e h = let same = length_pasted b i r e h in length_sealed (pasted b i r) (omega arith) ∙ same ∙ e
+length_rewritten b i r e h = let same = length_pasted b i r e h in length_sealed (with_record b i r) (omega arith) ∙ same ∙ e
 
 pub rule_rewritten : (b : List ℕ) (i : ℕ) (r : Rule) → length b ≡ 512 → i < 32 → rule_at (rewritten b i r) i ≡ Some r
 unfolding rewritten
-rule_rewritten b i r e h = rule_sealed (pasted b i r) i ∙ rule_pasted b i r e h
+rule_rewritten b i r e h = rule_sealed (with_record b i r) i ∙ rule_pasted b i r e h
 
 pub other_rewritten : (b : List ℕ) (i j : ℕ) (r : Rule) → length b ≡ 512 → i < 32 → (j ≢ i) → rule_at (rewritten b i r) j ≡ rule_at b j
 unfolding rewritten
-other_rewritten b i j r e h ne = rule_sealed (pasted b i r) j ∙ other_pasted b i j r e h ne
+other_rewritten b i j r e h ne = rule_sealed (with_record b i r) j ∙ other_pasted b i j r e h ne
 
 pub byte_rewritten : (b : List ℕ) (i : ℕ) (r : Rule) (m : ℕ) → length b ≡ 512 → i < 32 → 2 ≤ m → (m < record_start i) ⊎ (record_start i + 12 ≤ m) → slice_index (rewritten b i r) m ≡ slice_index b m
 unfolding rewritten
-byte_rewritten b i r m e h behind away = index_sealed (pasted b i r) m behind ∙ index_pasted b i r m 0 e h away
+byte_rewritten b i r m e h behind away = index_sealed (with_record b i r) m behind ∙ index_pasted b i r m 0 e h away
 
 pub right_rewritten : (b : List ℕ) (n k i : ℕ) (r : Rule) → length b ≡ 512 → i < k → k ≤ 32 → damage_of b n k ≡ None → damage_of (rewritten b i r) n k ≡ None
 unfolding rewritten
 right_rewritten b n k i r e h few none =
     let right = right_from_none b n k none in
-    sealed_right (pasted b i r) n k (head_pasted b n k i r e (omega arith) ∙ right.head) (body_pasted b k i r e h few right.body)
+    sealed_right (with_record b i r) n k (head_pasted b n k i r e (omega arith) ∙ right.head) (body_pasted b k i r e h few right.body)

@@ -1,28 +1,30 @@
 // The block store: a count and the bytes of its blocks.
 ghost use Rattle.std.specs.Prelude.{◌≡◌, ◌+◌, ◌*◌, ◌/◌, ◌<◌, ◌≤◌, true, length, OnOk};
-ghost use Rattle.store.specs.Entries.{got, done, put_into, whole};
-ghost use Rattle.block.specs.Memory.{size_for, fits, checked, entry_in, entry_at, slots_in, block_entries, with_rule, put_bytes};
+ghost use Rattle.store.specs.Entries.{answer, got, done, put_into, whole};
+ghost use Rattle.block.specs.Layout.{rule_at, damage_of};
+ghost use Rattle.block.specs.Memory.{size_for, fits, checked, read_in, entry_at, block_entries, with_rule, put_bytes};
 ghost use Rattle.block.specs.Memories.{few_entries};
 
-use crate::BLOCK;
-use crate::damage::damage;
+use crate::damage::examine;
 use crate::formatting::write_record;
+use crate::head::Head;
 use crate::records::rule_at;
+use crate::{BLOCK, Block, SLOTS};
 use refusal::{Damage, Fault, Refusal};
 use rule::Rule;
-use store::{Entry, Reading, Storing};
+use store::{Reading, Storing};
 
-// The slots of a whole block.
-pub(crate) const SLOTS: u32 = 32;
+// How many slots a store has at most.
+const MOST: u32 = 64;
 
 // How many bytes a store of `count` slots takes.
 pub fn memory_size(count: u32) -> Result<usize, Refusal>
     ensures { result ≡ size_for count }
 {
-    if count == 0 || count > 64 {
+    if !(1..=MOST).contains(&count) {
         return Err(Refusal::WrongSize);
     }
-    Ok(BLOCK * ((count as usize + 31) / 32))
+    Ok(BLOCK * count.div_ceil(SLOTS) as usize)
 }
 
 // Whether a block store of `count` slots can be made over these bytes.
@@ -36,41 +38,29 @@ pub fn check(bytes: &[u8], count: u32) -> Result<(), Refusal>
     Ok(())
 }
 
-// How many of `count` slots lie in block `number`.
-pub(crate) fn slots_in(count: u32, number: u32) -> u32
-    requires { 32 * number ≤ count }
-    ensures { result ≡ slots_in count number }
+// The rule in record `i` of a block, or what is wrong with the block.
+fn rule_in_block(block: &Block, head: Head, i: usize) -> Result<Rule, Fault>
+    requires { i < 32 }
+    ensures { result ≡ read_in (damage_of block.now head.number head.slots) (rule_at block.now i) }
 {
-    SLOTS.min(count - SLOTS * number)
+    examine(block, head)?;
+    rule_at(block, i).ok_or(Fault::Record)
 }
 
-// A damaged block damages all its slots.
-fn entry_in(fault: Option<Fault>, rule: Option<Rule>, number: u32) -> Entry
-    ensures { result ≡ entry_in fault rule number }
+// The rule in slot `slot` of a memory of `count` slots. A damaged block damages all its slots.
+fn rule_in_slot(bytes: &[u8], count: u32, slot: u32) -> Result<Rule, Refusal>
+    requires { (fits count (length bytes.now) ≡ true) × (slot < count) }
+    ensures { result ≡ answer (entry_at bytes.now count slot) }
 {
-    match (fault, rule) {
-        (Some(fault), _) => Entry::Broken(Damage {
+    let (blocks, _) = bytes.as_chunks::<BLOCK>();
+    let number = slot / SLOTS;
+    let head = Head::of(count, number);
+    rule_in_block(&blocks[number as usize], head, (slot % SLOTS) as usize).map_err(|fault| {
+        Refusal::Damaged(Damage {
             fault,
             block: number,
-        }),
-        (None, Some(rule)) => Entry::Intact(rule),
-        (None, None) => Entry::Broken(Damage {
-            fault: Fault::Record,
-            block: number,
-        }),
-    }
-}
-
-// What slot `slot` of a memory of `count` slots holds.
-fn entry(bytes: &[u8], count: u32, slot: u32) -> Entry
-    requires { (fits count (length bytes.now) ≡ true) × (slot < count) }
-    ensures { result ≡ entry_at bytes.now count slot }
-{
-    let number = slot / SLOTS;
-    let start = BLOCK * number as usize;
-    let block = &bytes[start..start + BLOCK];
-    let fault = damage(block, number, slots_in(count, number));
-    entry_in(fault, rule_at(block, (slot % SLOTS) as usize), number)
+        })
+    })
 }
 
 // Writes the record of a slot and the check of its block.
@@ -78,12 +68,10 @@ fn write_slot(bytes: &mut [u8], slot: u32, rule: Rule)
     requires { 512 * (slot / 32) + 512 ≤ length bytes.old }
     ensures { bytes.new ≡ with_rule bytes.old slot rule }
 {
-    let start = BLOCK * (slot / SLOTS) as usize;
-    write_record(
-        &mut bytes[start..start + BLOCK],
-        (slot % SLOTS) as usize,
-        rule,
-    );
+    // split: of what `bytes[start..]` lends on, a proof would know the length alone
+    let (_, rest) = bytes.split_at_mut(BLOCK * (slot / SLOTS) as usize);
+    let block = rest.first_chunk_mut().unwrap();
+    write_record(block, (slot % SLOTS) as usize, rule);
 }
 
 // A memory that the check refuses means the empty list.
@@ -104,21 +92,17 @@ impl BlockStore {
     pub fn bytes(&self) -> &[u8]
         ensures { result.now ≡ self.now.bytes.items }
     {
-        let all = self.bytes.as_slice();
-        all
+        self.bytes.as_slice()
     }
 
     pub fn into_bytes(self) -> Vec<u8>
         ensures { result ≡ self.bytes }
     {
-        let BlockStore {
-            bytes: memory,
-            count: _,
-        } = self;
-        memory
+        self.bytes
     }
 
     // Whether every slot holds a rule; else the first damage.
+    #[tactic(auto, using(store::specs::Slots::whole_stop, store::specs::Slots::whole_all))]
     pub fn check_entries(&self) -> Result<(), Refusal>
         ensures { result ≡ whole (block_entries self.now.bytes.items self.now.count) }
     {
@@ -129,23 +113,25 @@ impl BlockStore {
     }
 
     // How many slots count: none, where the check refuses the memory.
+    #[tactic(auto, using(crate::specs::Memories::length_entries))]
     fn slots(&self) -> u32
         ensures { result ≡ length (block_entries self.now.bytes.items self.now.count) }
     {
-        match check(self.bytes.as_slice(), self.count) {
+        match check(&self.bytes, self.count) {
             Ok(()) => self.count,
             Err(_) => 0,
         }
     }
 
     // The rule in a slot, or why there is none.
+    #[tactic(auto, using(store::specs::Slots::got_outside, crate::specs::Memories::got_entry))]
     fn rule_at(&self, slot: u32) -> Result<Rule, Refusal>
         ensures { result ≡ got (block_entries self.now.bytes.items self.now.count) slot }
     {
         if slot >= self.slots() {
             return Err(Refusal::SlotOutsideStore { slot });
         }
-        entry(self.bytes.as_slice(), self.count, slot).rule()
+        rule_in_slot(&self.bytes, self.count, slot)
     }
 }
 
@@ -179,7 +165,7 @@ impl Storing for BlockStore {
         ensures count { self.new.count ≡ self.old.count }
     {
         self.rule_at(slot)?;
-        write_slot(self.bytes.as_mut_slice(), slot, rule);
+        write_slot(&mut self.bytes, slot, rule);
         Ok(())
     }
 }

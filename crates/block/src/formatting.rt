@@ -1,52 +1,58 @@
 // Writing blocks.
-ghost use Rattle.std.specs.Prelude.{◌≡◌, ◌<◌, ◌≤◌, length, replicate};
+ghost use Rattle.std.specs.Prelude.{◌≡◌, ◌<◌, replicate};
 ghost use Rattle.rule.specs.Making.{open_rule};
-ghost use Rattle.block.specs.Layout.{sealed, rewritten, laid_out, WrittenReadsBack};
+ghost use Rattle.block.specs.Layout.{with_record, sealed, rewritten, laid_out, WrittenReadsBack};
 
+use crate::head::Head;
 use crate::records::record_bytes;
 use crate::sum::checksum;
-use crate::{BLOCK, FIRST, RECORD};
+use crate::{Block, FIRST, NUMBER_AT, RECORD, SLOTS_AT};
 use rule::Rule;
 
 // Writes the check of the other bytes.
-fn seal(block: &mut [u8])
-    requires { length block.old ≡ 512 }
+#[tactic(auto, using(crate::specs::Sealed::behind_check), unfolding(crate::specs::Layout::sealed, crate::specs::Layout::with_check))]
+fn seal(block: &mut Block)
     ensures { block.new ≡ sealed block.old }
 {
-    let check = checksum(&block[2..BLOCK]).to_be_bytes();
-    block[0] = check[0];
-    block[1] = check[1];
+    let check = checksum(&block[2..]);
+    block[..2].copy_from_slice(&check.to_be_bytes());
 }
 
-// Writes record `i`, and the check anew.
-pub(crate) fn write_record(block: &mut [u8], i: usize, rule: Rule)
-    requires { (length block.old ≡ 512) × (i < 32) }
-    ensures { block.new ≡ rewritten block.old i rule }
+// Writes record `i`, and leaves the check as it is.
+#[tactic(auto, using(crate::specs::Rewritten::record_pasted))]
+fn copy_record(block: &mut Block, i: usize, rule: Rule)
+    requires { i < 32 }
+    ensures { block.new ≡ with_record block.old i rule }
 {
     let start = FIRST + RECORD * i;
     block[start..start + RECORD].copy_from_slice(&record_bytes(rule));
+}
+
+// Writes record `i`, and the check anew.
+#[tactic(auto, unfolding(crate::specs::Layout::rewritten))]
+pub(crate) fn write_record(block: &mut Block, i: usize, rule: Rule)
+    requires { i < 32 }
+    ensures { block.new ≡ rewritten block.old i rule }
+{
+    copy_record(block, i, rule);
     seal(block);
 }
 
-// Writes block `number` with an open rule in each of its slots, whatever stood there.
-pub(crate) fn format_block(block: &mut [u8], number: u8, slots: u8)
-    requires { (length block.old ≡ 512) × (slots ≤ 32) }
-    ensures { block.new ≡ laid_out number (replicate slots open_rule) }
+// Writes a block with this head and an open rule in each of its slots, whatever stood there.
+pub(crate) fn format_block(block: &mut Block, head: Head)
+    ensures { block.new ≡ laid_out head.number (replicate head.slots open_rule) }
 {
     block.fill(0);
-    block[2] = number;
-    block[3] = slots;
-    let open = record_bytes(Rule::open());
-    for i in 0..usize::from(slots) {
-        let start = FIRST + RECORD * i;
-        block[start..start + RECORD].copy_from_slice(&open);
+    block[NUMBER_AT] = head.number;
+    block[SLOTS_AT] = head.slots;
+    // by number: the library does not say what a slice holds after `chunks_mut`
+    for i in 0..usize::from(head.slots) {
+        copy_record(block, i, Rule::open());
     }
     seal(block);
 }
 
 // A block that is written is a block that reads back.
-pub fn written_reads_back() -> u8
+pub fn written_reads_back()
     ensures { WrittenReadsBack }
-{
-    0
-}
+{}

@@ -8,6 +8,7 @@
 pub mod block_store;
 mod damage;
 mod formatting;
+mod head;
 pub mod memory;
 mod records;
 mod sum;
@@ -15,19 +16,30 @@ mod sum;
 pub use formatting::written_reads_back;
 
 // How many bytes a block has.
-const BLOCK: usize = 512;
+pub const BLOCK: usize = 512;
 
-// How many bytes a record has.
-const RECORD: usize = 12;
+// How many slots a block has at most.
+pub const SLOTS: u32 = 32;
+
+// Where a block has its number, and how many slots it has. Its check stands before both.
+const NUMBER_AT: usize = 2;
+
+pub const SLOTS_AT: usize = 3;
 
 // Where the first record begins.
 const FIRST: usize = 16;
 
+// How many bytes a record has.
+const RECORD: usize = 12;
+
+type Block = [u8; BLOCK];
+
 #[cfg(test)]
 mod tests {
     use crate::BLOCK;
-    use crate::damage::damage;
+    use crate::damage::examine;
     use crate::formatting::{format_block, write_record};
+    use crate::head::Head;
     use crate::sum::checksum;
     use rule::{Parts, Rule};
     use std::test::Fail;
@@ -51,13 +63,14 @@ mod tests {
             first: 0,
             last: 65535,
         };
-        let Ok(rule) = Rule::from_parts(parts) else {
+        let Ok(rule) = Rule::try_from(parts) else {
             return Err(Fail::new("the parts make a rule"));
         };
+        let head = Head::of(1, 0);
         let mut block = [0u8; BLOCK];
-        format_block(&mut block, 0, 1);
+        format_block(&mut block, head);
         write_record(&mut block, 0, rule);
-        assert!(rt; damage(&block, 0, 1).is_none());
+        assert!(rt; examine(&block, head).is_ok());
         assert_eq!(rt; u16::from_be_bytes([block[0], block[1]]), 0x25FD);
         Ok(())
     }

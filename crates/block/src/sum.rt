@@ -3,6 +3,7 @@ ghost use Rattle.std.specs.Prelude.{◌≡◌, ◌+◌, ◌/◌, ◌%◌, ◌≤
 ghost use Rattle.block.specs.Check.{check};
 
 // The carries out of the low 16 bits, added back to them.
+#[tactic(auto, using(std::proofs::lemmas::Nat::and_mask))]
 fn carried(sum: u32) -> u32
     ensures { result ≡ sum % 65536 + sum / 65536 }
 {
@@ -17,10 +18,11 @@ pub(crate) fn checksum(bytes: &[u8]) -> u16
     requires { (length bytes.now ≤ 512) × (length bytes.now % 2 ≡ 0) }
     ensures { result ≡ check bytes.now }
 {
-    let mut sum: u32 = 0;
-    for i in 0..bytes.len() / 2 {
-        sum += u32::from(u16::from_le_bytes([bytes[2 * i], bytes[2 * i + 1]]));
-    }
+    let (words, _) = bytes.as_chunks::<2>();
+    let sum: u32 = words
+        .iter()
+        .map(|word| u32::from(u16::from_le_bytes(*word)))
+        .sum();
     // adding the first carries back can carry once more
     let sum = carried(carried(sum)) as u16;
     !sum.swap_bytes()

@@ -1,6 +1,6 @@
 -- Books that may be called, and what a list of calls with its answers comes to. Assumes nothing.
 use Rattle.std.specs.Prelude.{◌≡◌, List, [], ◌∷◌}
-use Rattle.store.specs.declared.Entry.{Entry}
+use Rattle.store.specs.declared.Reading.{Ghosts as Meaning}
 use Rattle.calls.specs.State.{just_made}
 use Rattle.calls.specs.Words.{Call, Answer}
 use Rattle.calls.specs.Calls.{after}
@@ -10,14 +10,14 @@ use Rattle.room.specs.Room.{Room}
 use Rattle.book.specs.Views.{view}
 
 -- the store is sound, and there is a notice number left for every pending change that writes
-pub record Sound {S : Type 0} (entries : S → List Entry) (sound : S → Type 0) (b : Book S) : Type 0 where
-  pub store : sound b.store
-  pub room : Room (view entries b)
+pub record Sound {S : Type 0} (reading : Meaning S) (b : Book S) : Type 0 where
+  pub store : reading.sound b.store
+  pub room : Room (view reading b)
 
 -- how books come to be sound: by their making, and by every call
-pub record Soundness {S : Type 0} (entries : S → List Entry) (sound : S → Type 0) : Type 0 where
-  pub made : (b : Book S) → sound b.store → view entries b ≡ just_made (entries b.store) → Sound entries sound b
-  pub kept : (b later : Book S) (c : Call) → (sound b.store → sound later.store) → view entries later ≡ after (view entries b) c → Sound entries sound b → Sound entries sound later
+pub record Soundness {S : Type 0} (reading : Meaning S) : Type 0 where
+  pub made : (b : Book S) → reading.sound b.store → view reading b ≡ just_made (reading.entries b.store) → Sound reading b
+  pub kept : (b later : Book S) (c : Call) → (reading.sound b.store → reading.sound later.store) → view reading later ≡ after (view reading b) c → Sound reading b → Sound reading later
 
 -- a call with an answer
 abbrev pub said : Call → Answer → Event

@@ -5,7 +5,6 @@
 #![tactic(auto)]
 
 mod applying;
-mod causes;
 mod committing;
 mod fetching;
 mod forwarding;
@@ -17,6 +16,7 @@ mod truncation;
 use ledger::Ledger;
 pub use soundness::soundness_stands;
 
+// That a book is sound (`Sound` in specs/Runs) is a premise of clauses and no ghost field, since a book can be made over a store that is not sound.
 #[derive(Drop)]
 pub struct Book<S> {
     store: S,

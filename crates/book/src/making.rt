@@ -11,7 +11,7 @@ use store::Storing;
 impl<S: Storing + Drop> Book<S> {
     // A book over a store, in which nothing has been done.
     pub fn new(store: S, heap: Global) -> Result<Book<S>, AllocError>
-        ensures { IfOk result (λ b. (b.store ≡ store) × (view S.Reading.entries b ≡ just_made (S.Reading.entries store))) }
+        ensures { IfOk result (λ b. (b.store ≡ store) × (view S.Reading b ≡ just_made (S.Reading.entries store))) }
     {
         let ledger = Ledger::new(heap)?;
         Ok(Book { store, ledger })
@@ -21,7 +21,6 @@ impl<S: Storing + Drop> Book<S> {
     pub fn store(&self) -> &S
         ensures { result.now ≡ self.now.store }
     {
-        let held = &self.store;
-        held
+        &self.store
     }
 }

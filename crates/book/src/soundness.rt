@@ -6,5 +6,5 @@ use store::Storing;
 // A book just made over a sound store is sound. A call that leaves a sound store sound, and the book as its definition says, leaves a sound book
 // sound; each of the eleven promises that.
 pub fn soundness_stands<S: Storing>()
-    ensures { Soundness S.Reading.entries S.Reading.sound }
+    ensures { Soundness S.Reading }
 {}

@@ -1,51 +1,43 @@
 // Striking a change out, and forgetting committed ones.
 ghost use Rattle.std.specs.Prelude.{◌≡◌};
-ghost use Rattle.std.specs.Option.{option_map};
 ghost use Rattle.queue.specs.Entries.{key_view};
-ghost use Rattle.calls.specs.Words.{abort, truncate};
-ghost use Rattle.calls.specs.Effects.{later};
+ghost use Rattle.calls.specs.Words.{abort, truncate, done, removed};
 ghost use Rattle.calls.specs.Calls.{answer, after};
-ghost use Rattle.book.specs.Views.{view, answer_view};
+ghost use Rattle.book.specs.Views.{view, answered};
 
 use crate::Book;
-use protocol::Answer;
-use stamp::{Key, Stamp};
+use ledger::require;
+use refusal::Refusal;
+use session::Phase;
+use stamp::Stamp;
 use store::Storing;
-
-// The later of the threshold and a key.
-fn later_of(threshold: Option<Key>, key: Key) -> Key
-    ensures { key_view result ≡ later (option_map key_view threshold) (key_view key) }
-{
-    match threshold {
-        None => key,
-        Some(old) => { if old.before(key) { key } else { old } }
-    }
-}
 
 impl<S: Storing> Book<S> {
     // Gives up the change.
-    pub fn abort(&mut self, session: u32) -> Answer
-        ensures answer { answer_view result ≡ answer (view S.Reading.entries self.old) (abort session) }
-        ensures after { view S.Reading.entries self.new ≡ after (view S.Reading.entries self.old) (abort session) }
+    pub fn abort(&mut self, session: u32) -> Result<(), Refusal>
+        ensures answer { answered (λ _. done) result ≡ answer (view S.Reading self.old) (abort session) }
+        ensures after { view S.Reading self.new ≡ after (view S.Reading self.old) (abort session) }
         ensures store { self.new.store ≡ self.old.store }
     {
-        if let Some(cause) = self.abort_cause(session) {
-            return Answer::Refused(cause);
-        }
+        let record = self.ledger.record(session)?;
+        require(
+            record.phase() != Phase::Idle,
+            Refusal::WrongPhase { session },
+        )?;
         self.ledger.sessions.abort(session);
         self.ledger.queue.strike(session);
-        Answer::Done
+        Ok(())
     }
 
     // Forgets committed changes up to a stamp.
-    pub fn truncate<K: Stamp>(&mut self, stamp: K) -> Answer
-        ensures answer { answer_view result ≡ answer (view S.Reading.entries self.old) (truncate (key_view (K.Stamp.key_of stamp))) }
-        ensures after { view S.Reading.entries self.new ≡ after (view S.Reading.entries self.old) (truncate (key_view (K.Stamp.key_of stamp))) }
+    pub fn truncate<K: Stamp>(&mut self, stamp: K) -> u32
+        ensures answer { removed result ≡ answer (view S.Reading self.old) (truncate (key_view (K.Stamp.key_of stamp))) }
+        ensures after { view S.Reading self.new ≡ after (view S.Reading self.old) (truncate (key_view (K.Stamp.key_of stamp))) }
         ensures store { self.new.store ≡ self.old.store }
     {
-        let threshold = later_of(self.ledger.threshold, stamp.key());
-        let removed = self.ledger.queue.truncate(threshold);
+        let key = stamp.key();
+        let threshold = self.ledger.threshold.map_or(key, |old| old.max(key));
         self.ledger.threshold = Some(threshold);
-        Answer::Removed(removed)
+        self.ledger.queue.truncate(threshold)
     }
 }

@@ -1,7 +1,6 @@
 -- What is true of every state that is reached, and of the account of the history that led to it. Assumes nothing.
 -- Each part takes only what it speaks of, so that a call that does not touch a part passes it on.
-use Rattle.std.proofs.Common.{◌≡◌, ℕ, ◌<◌, ◌≤◌, Bool, true, false, ◌||◌, ◌⊎◌, List, [], ◌∷◌, length, is_some, Some, None, Option, sym, refl, zero-le}
-use mathlib.Core.Bool.{false≢true}
+use Rattle.std.proofs.Common.{◌≡◌, ℕ, ◌<◌, ◌≤◌, Bool, true, false, ◌||◌, ◌⊎◌, List, [], ◌∷◌, length, is_some, Some, None, Option, refl, zero-le}
 use Rattle.std.specs.Option.{option_map}
 use Rattle.std.specs.List.{slice_get, AllByRecursion}
 use Rattle.rule.specs.declared.Rule.{Rule}
@@ -15,7 +14,7 @@ use Rattle.law.proofs.Runs.{Right, AllRight, held_after}
 use Rattle.law.proofs.Places.{Places, no_places}
 use Rattle.calls.specs.State.{Phase, idle, opened, pending, Desk, Work, Session, Queued, State, held, noticed, written, just_made}
 use Rattle.calls.specs.Checks.{not_after}
-use Rattle.calls.proofs.Tools.{Any, some_none}
+use Rattle.calls.proofs.Tools.{Any}
 
 -- copies, as entries
 abbrev pub as_entries : (ℕ → Option Rule) → ℕ → Option Entry
@@ -89,13 +88,18 @@ pub record Matches (c : Change Rule) (q : Queued) : Type 0 where
 abbrev pub Known : List Queued → Option Key → Change Rule → Type 0
 Known queue threshold c = ((is_pending_change c ≡ false) × (not_after threshold c.key ≡ true)) ⊎ Any (Matches c) queue
 
+-- what the accepted changes made of the entries, and what is known of each
+pub record Settled (first entries : List Entry) (queue : List Queued) (threshold : Option Key) (accepted : List (Change Rule)) : Type 0 where
+  pub size : length entries ≡ length first
+  pub chain : Pairwise Between accepted
+  pub right : AllRight Intact (slice_get first) accepted
+  pub holds : (x : ℕ) → slice_get entries x ≡ held_after Intact (slice_get first) accepted x
+  pub known : AllByRecursion (Known queue threshold) accepted
+
 pub record Inv (first : List Entry) (b : State) (a : Account Rule) : Type 0 where
-  pub size : length b.entries ≡ length first
-  pub chain : Pairwise Between a.accepted
-  pub right : AllRight Intact (slice_get first) a.accepted
-  pub holds : (x : ℕ) → slice_get b.entries x ≡ held_after Intact (slice_get first) a.accepted x
+  pub settled : Settled first b.entries b.queue b.threshold a.accepted
+  pub open settled use *
   pub changes : AllByRecursion (ChangeOk (length first) (λ t. (b.sessions t).work)) a.accepted
-  pub known : AllByRecursion (Known b.queue b.threshold) a.accepted
   pub desks : (t : ℕ) → DeskIn first b a t (b.sessions t).desk
   pub works : (t : ℕ) → WorkIn b a t (b.sessions t)
   pub places : Places a
@@ -103,19 +107,15 @@ pub record Inv (first : List Entry) (b : State) (a : Account Rule) : Type 0 wher
 -- it is true of a book just made
 pub made_ok : (first : List Entry) → Inv first (just_made first) nothing_yet
 made_ok first = record {
-  size = refl;
-  chain = tt;
-  right = tt;
-  holds = λ x. refl;
+  settled = record { size = refl; chain = tt; right = tt; holds = λ x. refl; known = tt };
   changes = tt;
-  known = tt;
   desks = λ t. record {
-    true_copy = λ x r e _. absurd (some_none r (sym e));
-    inside = λ x e. absurd (false≢true e);
+    true_copy = λ x r e _. cc;
+    inside = λ x e. cc;
     told = λ x e. refl;
     taken_once = λ x e. e;
-    not_learnt = λ x k e _. absurd (false≢true e);
-    within = λ x k e. absurd (some_none k (sym e));
+    not_learnt = λ x k e _. cc;
+    within = λ x k e. cc;
     learnt_within = zero-le;
   };
   works = λ t. refl;

@@ -3,6 +3,5 @@ pub mod Sets
 pub mod Invariant
 pub mod kept
 pub mod Steps
+pub mod Owed
 pub mod Bounds
-pub mod Causes
-pub mod Sessions

@@ -1,5 +1,5 @@
 -- One call keeps the invariant, and the law of every state that is reached. Assumes nothing.
-use Rattle.std.proofs.Common.{◌≡◌, ℕ, ◌+◌, Bool, true, false, cond, ◌&&◌, eqb, List, [], ◌∷◌, is_some, Some, None, Option, sym, refl, ap, ◌∙◌, subst}
+use Rattle.std.proofs.Common.{◌≡◌, ℕ, ◌+◌, Bool, true, false, cond, ◌&&◌, eqb, List, [], ◌∷◌, is_some, Some, None, Option, sym, refl, ap, ◌∙◌, subst, arith}
 use Rattle.std.specs.Option.{option_map, option_or}
 use Rattle.std.proofs.lemmas.Bool.{cond_both}
 use Rattle.refusal.specs.declared.Refusal.{Refusal}
@@ -9,10 +9,10 @@ use Rattle.store.specs.declared.Entry.TheVariants.{Intact}
 use Rattle.law.specs.Changes.{Key, Clash, same_key}
 use Rattle.law.specs.Accounts.{Account, begins, takes, writes, commits, strikes, passes, stale, withheld}
 use Rattle.law.specs.Accounts.{after as then}
-use Rattle.law.proofs.Lists.{pairs_kept, pairs_weaker}
+use Rattle.law.proofs.Lists.{pairs_kept}
 use Rattle.calls.specs.Sets.{lowest, any_below}
 use Rattle.calls.specs.State.{opened, State, noticed, written}
-use Rattle.calls.proofs.Tools.{some_none, clear_head, when_none}
+use Rattle.calls.proofs.Tools.{cleared, when_none}
 use Rattle.calls.proofs.Invariant.{Between, Inv}
 use Rattle.refusal.specs.declared.Refusal.TheVariants.{
   NoSuchSession,
@@ -138,7 +138,7 @@ done_ok first b a (write s x r) inv clear = write_ok first b a s x r inv clear
 done_ok first b a (drop s x) inv clear = drop_ok first b a s x inv clear
 done_ok first b a (forward s k) inv clear = forward_ok first b a s k inv (accepted_says b s k clear)
 done_ok first b a (commit s) inv clear =
-    commit_ok first b a s inv (pending_is _ (when_none _ (WrongPhase s) (clear_head _ _ (clear_head (no_session s) _ clear).1).0))
+    commit_ok first b a s inv (pending_is _ (when_none _ _ (cleared (checks b (commit s)) clear 1)))
 done_ok first b a (abort s) inv clear = abort_ok first b a s inv
 done_ok first b a (learn s) inv clear =
     cond_both (ends_change (count b) (b.sessions s)) (strikes s) passes (λ e. Inv first (effect b (learn s)) (then e a))
@@ -162,13 +162,12 @@ skip a b s k None rest earlier' more = more refl
 skip a b s k (Some e) rest earlier' more = subst (λ o. RightStep a (forward_step s k o)) (sym (earlier' e refl)) tt
 
 when_cause : (v : Bool) (cause e : Refusal) → refused_outcome cause ≡ None → when v cause ≡ Some e → refused_outcome e ≡ None
-when_cause true cause e before is = let same : cause ≡ e = cc in ap refused_outcome (sym same) ∙ before
-when_cause false cause e before is = absurd (some_none e (sym is))
+when_cause test cause e before is = let same : cause ≡ e = grind arith in ap refused_outcome (sym same) ∙ before
 
-mapped_cause : (f : ℕ → Refusal) (o : Option ℕ) (e : Refusal) → ((n : ℕ) → refused_outcome (f n) ≡ None) → option_map f o ≡ Some e
+option_map_cause : (f : ℕ → Refusal) (o : Option ℕ) (e : Refusal) → ((n : ℕ) → refused_outcome (f n) ≡ None) → option_map f o ≡ Some e
     → refused_outcome e ≡ None
-mapped_cause f None e before is = absurd (some_none e (sym is))
-mapped_cause f (Some n) e before is = let same : f n ≡ e = cc in ap refused_outcome (sym same) ∙ before n
+option_map_cause f None e before is = cc
+option_map_cause f (Some n) e before is = let same : f n ≡ e = cc in ap refused_outcome (sym same) ∙ before n
 
 -- a forward is refused as stale exactly when it should be
 forward_right : (first : List Entry) (b : State) (a : Account Rule) (s : ℕ) (k : Key) → Inv first b a
@@ -177,11 +176,11 @@ forward_right first b a s k inv =
     skip a b s k (no_session s) _ (λ e. when_cause _ (NoSuchSession s) e refl) (λ _.
     skip a b s k (wrong_phase is_opened b s) _ (λ e. when_cause _ (WrongPhase s) e refl) (λ ph.
     skip a b s k (too_early b k) _ (λ e. when_cause _ StampTooEarly e refl) (λ _.
-    skip a b s k (stamp_taken b k) _ (λ e. mapped_cause StampTaken _ e (λ _. refl)) (λ _.
+    skip a b s k (stamp_taken b k) _ (λ e. option_map_cause StampTaken _ e (λ _. refl)) (λ _.
     skip a b s k (queue_full b) _ (λ e. when_cause _ QueueFull e refl) (λ _.
-    skip a b s k (later_conflict b s k) _ (λ e. mapped_cause LaterConflict _ e (λ _. refl)) (λ _.
-    skip a b s k (pending_conflict b s k) _ (λ e. mapped_cause PendingConflict _ e (λ _. refl)) (λ _.
-    stale_or (opened_is _ (when_none _ (WrongPhase s) ph)) (lowest (count b) (λ x. (work_of b s).read x && noticed (desk_of b s) x)) refl)))))))
+    skip a b s k (later_conflict b s k) _ (λ e. option_map_cause LaterConflict _ e (λ _. refl)) (λ _.
+    skip a b s k (pending_conflict b s k) _ (λ e. option_map_cause PendingConflict _ e (λ _. refl)) (λ _.
+    stale_or (opened_is _ (when_none _ _ ph)) (lowest (count b) (λ x. (work_of b s).read x && noticed (desk_of b s) x)) refl)))))))
   where
     stale_or : (work_of b s).phase ≡ opened → (o : Option ℕ) → lowest (count b) (λ x. (work_of b s).read x && noticed (desk_of b s) x) ≡ o
         → RightStep a (step_of (forward s k) (answer_where (option_or (option_map Stale o) (option_or (numbers_exhausted b s) None)) b (forward s k)))
@@ -206,8 +205,7 @@ right_answer first b a (drop s x) inv = tt
 right_answer first b a (forward s k) inv = forward_right first b a s k inv
 right_answer first b a (commit s) inv = cond_both (is_refused (answer b (commit s))) passes (commits s) (RightStep a) (λ _. tt) (λ _. tt)
 right_answer first b a (abort s) inv = cond_both (is_refused (answer b (abort s))) passes (strikes s) (RightStep a) (λ _. tt) (λ _. tt)
-right_answer first b a (learn s) inv =
-    cond_both (tells_end (answer b (learn s))) (strikes s) passes (RightStep a) (λ _. tt) (λ _. tt)
+right_answer first b a (learn s) inv = cond_both (tells_end (answer b (learn s))) (strikes s) passes (RightStep a) (λ _. tt) (λ _. tt)
 right_answer first b a (receipt s n) inv = tt
 right_answer first b a (truncate k) inv = tt
 
@@ -223,8 +221,7 @@ reached_right first (called {h = h} {b = b} r c) = (right_answer first b (accoun
 -- the committed changes follow their stamps where they clash
 pub follows : (first : List Entry) (b : State) (a : Account Rule) → Inv first b a → FollowsStamps (committed_of a.accepted)
 follows first b a inv =
-    pairs_kept (λ c d. Clash c d → earlier_stamp c d ≡ true) (λ c. is_some c.committed) a.accepted
-    (pairs_weaker Between (λ c d. Clash c d → earlier_stamp c d ≡ true) (λ c d bt. bt.rising) a.accepted inv.chain)
+    pairs_kept Between (λ c d. Clash c d → earlier_stamp c d ≡ true) (λ c d bt. bt.rising) (λ c. is_some c.committed) a.accepted inv.chain
 
 -- and explain the entries as they were accepted
 pub accepted_explains : (first : List Entry) (b : State) (a : Account Rule) → Inv first b a
@@ -237,8 +234,8 @@ law_of first b h inv right =
     let explains = accepted_explains first b (account h) inv in
     record {
       by_stamp = sorted_explains Intact first b.entries (committed_of (account h).accepted)
-          (pairs_kept (λ c d. same_key c.key d.key ≡ false) (λ c. is_some c.committed) (account h).accepted
-          (pairs_weaker Between (λ c d. same_key c.key d.key ≡ false) (λ c d bt. bt.apart) (account h).accepted inv.chain))
+          (pairs_kept Between (λ c d. same_key c.key d.key ≡ false) (λ c d bt. bt.apart) (λ c. is_some c.committed) (account h).accepted
+          inv.chain)
           (follows first b (account h) inv) explains;
       by_acceptance = record { explains = explains; earlier_first = earlier_first (account h) inv.places };
       stale_exactly = right;

@@ -1,12 +1,11 @@
 -- Small tools: cases on a session's number, options, and what it says that no check turned a call away. Assumes nothing.
-use Rattle.std.proofs.Common.{◌≡◌, ℕ, Bool, true, false, cond, eqb, ◌⊎◌, List, [], ◌∷◌, ◌++◌, map, is_some, Some, None, filter, Option, sym, refl, ap, subst, inl, inr, true≢false, arith}
-use mathlib.Core.Bool.{false≢true}
-use Rattle.std.specs.Option.{option_map, option_or}
+use Rattle.std.proofs.Common.{◌≡◌, ℕ, zero, suc, Bool, true, false, cond, eqb, ◌⊎◌, List, [], ◌∷◌, ◌++◌, map, is_some, Some, None, filter, Option, sym, refl, ap, subst, inl, inr, arith}
+use Rattle.std.specs.Option.{option_map}
 use Rattle.std.specs.List.{AllByRecursion}
 use Rattle.std.proofs.lemmas.Bool.{eqb-true, eqb-false, eq-eqb, ne_eqb, cond_both, both_ways}
 use Rattle.refusal.specs.declared.Refusal.{Refusal}
 use Rattle.law.specs.Accounts.{changed}
-use Rattle.calls.specs.Checks.{when}
+use Rattle.calls.specs.Checks.{when, first_cause}
 
 -- by cases on whether two numbers are one
 pub by_number : (Q : Bool → Type 0) (t s : ℕ) → (t ≡ s → Q true) → ((t ≡ s → ⊥) → Q false) → Q (eqb t s)
@@ -16,11 +15,14 @@ by_number Q t s yes' no' = go (eqb t s) refl
     go true e = yes' (eqb-true t s e)
     go false e = no' (eqb-false t s e)
 
+-- what holds of one session, and of each other
+pub each_session : (P : Bool → ℕ → Type 0) (s : ℕ) → P true s → ((t : ℕ) → (t ≡ s → ⊥) → P false t) → (t : ℕ) → P (eqb t s) t
+each_session P s own other t = by_number (λ v. P v t) t s (λ e. subst (P true) (sym e) own) (other t)
+
 -- one session is changed, and each keeps what it had
 pub changed_keeps : {X : Type 0} (P : ℕ → X → Type 0) (s : ℕ) (f : X → X) (g : ℕ → X) → ((t : ℕ) → P t (g t)) → (P s (g s) → P s (f (g s))) → (t : ℕ)
     → P t (changed s f g t)
-changed_keeps P s f g all' one t =
-    by_number (λ v. P t (cond v (f (g t)) (g t))) t s (λ e. subst (λ z. P z (f (g z))) (sym e) (one (all' s))) (λ _. all' t)
+changed_keeps P s f g all' one = each_session (λ v t. P t (cond v (f (g t)) (g t))) s (one (all' s)) (λ t _. all' t)
 
 -- a changed function, at the number and elsewhere
 pub changed_here : {X : Type 0} (s : ℕ) (f : X → X) (g : ℕ → X) → changed s f g s ≡ f (g s)
@@ -30,41 +32,36 @@ pub changed_there : {X : Type 0} (s : ℕ) (f : X → X) (g : ℕ → X) (t : �
 changed_there s f g t ne = ap (λ v. cond v (f (g t)) (g t)) (ne_eqb t s ne)
 
 pub some_is : {X : Type 0} (o : Option X) → is_some o ≡ true → (x : X) × (o ≡ Some x)
-some_is None e = absurd (false≢true e)
+some_is None e = cc
 some_is (Some x) e = (x, refl)
 
 pub none_is : {X : Type 0} (o : Option X) → is_some o ≡ false → o ≡ None
 none_is None e = refl
-none_is (Some x) e = absurd (true≢false e)
-
-pub some_none : {X : Type 0} (x : X) → Some x ≡ None → ⊥
-some_none x e = let z : ◌≡◌ {A = ℕ} 0 1 = cc in omega arith
-
-pub not_true_false : (v : Bool) → (v ≡ true → ⊥) → v ≡ false
-not_true_false true f = absurd (f refl)
-not_true_false false f = refl
-
-pub not_false_true : (v : Bool) → (v ≡ false → ⊥) → v ≡ true
-not_false_true true f = refl
-not_false_true false f = absurd (f refl)
+none_is (Some x) e = cc
 
 -- two tests with the same meaning are equal
 pub same_test : (v w : Bool) → (v ≡ true → w ≡ true) → (w ≡ true → v ≡ true) → v ≡ w
-same_test true w f g = sym (f refl)
-same_test false true f g = g refl
-same_test false false f g = refl
+same_test v w f g = grind arith
 
-pub clear_head : {X : Type 0} (o p : Option X) → option_or o p ≡ None → (o ≡ None) × (p ≡ None)
-clear_head None p e = (refl, e)
-clear_head (Some x) p e = absurd (some_none x e)
+-- the finding of the i-th check
+abbrev pub finding : List (Option Refusal) → ℕ → Option Refusal
+finding [] i = None
+finding (c ∷ cs) zero = c
+finding (c ∷ cs) (suc i) = finding cs i
 
-pub when_none : (v : Bool) (c : Refusal) → when v c ≡ None → v ≡ false
-when_none true c e = absurd (some_none c e)
-when_none false c e = refl
+-- where no check turned a call away, each found nothing
+pub cleared : (cs : List (Option Refusal)) → first_cause cs ≡ None → (i : ℕ) → finding cs i ≡ None
+cleared [] e i = refl
+cleared (None ∷ cs) e zero = refl
+cleared (None ∷ cs) e (suc i) = cleared cs e i
+cleared (Some c ∷ cs) e i = cc
 
-pub mapped_none : {X Y : Type 0} (f : X → Y) (o : Option X) → option_map f o ≡ None → o ≡ None
-mapped_none f None e = refl
-mapped_none f (Some x) e = absurd (some_none (f x) e)
+pub when_none : (test : Bool) (cause : Refusal) → when test cause ≡ None → test ≡ false
+when_none test cause e = grind arith
+
+pub option_map_none : {X Y : Type 0} (f : X → Y) (o : Option X) → option_map f o ≡ None → o ≡ None
+option_map_none f None e = refl
+option_map_none f (Some x) e = cc
 
 -- something in a list
 abbrev pub Any : {X : Type 0} → (X → Type 0) → List X → Type 0

@@ -13,7 +13,7 @@ use Rattle.calls.specs.Checks.{is_opened, count, work_of}
 
 -- the state with other sessions
 abbrev pub with_sessions : (ℕ → Session) → State → State
-with_sessions f b = record { entries = b.entries; sessions = f; queue = b.queue; threshold = b.threshold; number = b.number }
+with_sessions f b = record b { sessions = f }
 
 -- the state with one session changed
 abbrev pub with_session : ℕ → (Session → Session) → State → State
@@ -25,41 +25,35 @@ rule_in l x = elim (got l x) [ Ok r ↦ Some r | Err e ↦ None ]
 
 -- the copy of a slot is this one; none, and the slot is not held
 abbrev pub with_copy : ℕ → Option Rule → Desk → Desk
-with_copy x o d = record { copies = changed x (λ _. o) d.copies; notices = d.notices; learnt = d.learnt }
+with_copy x o d = record d { copies = changed x (λ _. o) d.copies }
 
 -- a slot without notice
 abbrev pub without_notice : ℕ → Desk → Desk
-without_notice x d = record { copies = d.copies; notices = changed x (λ _. None) d.notices; learnt = d.learnt }
+without_notice x d = record d { notices = changed x (λ _. None) d.notices }
 
 -- an open change that did nothing
 abbrev pub begun : Session → Session
-begun p = record { desk = p.desk; work = record { phase = opened; read = λ _. false; staged = λ _. None } }
+begun p = record p { work = record { phase = opened; read = λ _. false; staged = λ _. None } }
 
 -- the slot is held with this copy, and its notice goes
 abbrev pub fetched : ℕ → Option Rule → Session → Session
-fetched x o p = record { desk = without_notice x (with_copy x o p.desk); work = p.work }
+fetched x o p = record p { desk = without_notice x (with_copy x o p.desk) }
 
 -- the slot counts as read
 abbrev pub having_read : ℕ → Session → Session
-having_read x p = record {
-  desk = p.desk;
-  work = record { phase = p.work.phase; read = changed x (λ _. true) p.work.read; staged = p.work.staged };
-}
+having_read x p = record p { work = record p.work { read = changed x (λ _. true) p.work.read } }
 
 -- the rule is staged for the slot
 abbrev pub having_written : ℕ → Rule → Session → Session
-having_written x r p = record {
-  desk = p.desk;
-  work = record { phase = p.work.phase; read = p.work.read; staged = changed x (λ _. Some r) p.work.staged };
-}
+having_written x r p = record p { work = record p.work { staged = changed x (λ _. Some r) p.work.staged } }
 
 -- the slot is no longer held; its notice stays
 abbrev pub dropped : ℕ → Session → Session
-dropped x p = record { desk = with_copy x None p.desk; work = p.work }
+dropped x p = record p { desk = with_copy x None p.desk }
 
 -- the change waits for its commit
 abbrev pub put_forward : Session → Session
-put_forward p = record { desk = p.desk; work = record { phase = pending; read = p.work.read; staged = p.work.staged } }
+put_forward p = record p { work = record p.work { phase = pending } }
 
 -- the queue entry of a session's change
 abbrev pub entry_of : ℕ → Key → Work → Queued
@@ -85,32 +79,23 @@ number_after b s = cond (any_below (count b) (replaced b s)) (suc b.number) b.nu
 -- the committing session: what it wrote are its copies, and its change is done
 abbrev pub committed : Session → Session
 committed p = record {
-  desk = record {
-    copies = λ x. option_or (p.work.staged x) (p.desk.copies x);
-    notices = p.desk.notices;
-    learnt = p.desk.learnt;
-  };
+  desk = record p.desk { copies = λ x. option_or (p.work.staged x) (p.desk.copies x) };
   work = no_work;
 }
 
 -- another session: a notice on each slot replaced that it holds
 abbrev pub notified : (ℕ → Bool) → ℕ → Session → Session
-notified slots n p = record {
-  desk = record {
-    copies = p.desk.copies;
-    notices = λ x. cond (slots x && held p.desk x) (Some n) (p.desk.notices x);
-    learnt = p.desk.learnt;
-  };
-  work = p.work;
+notified slots n p = record p {
+  desk = record p.desk { notices = λ x. cond (slots x && held p.desk x) (Some n) (p.desk.notices x) };
 }
 
 -- the pending entry of a session becomes committed
 abbrev pub finished : ℕ → Queued → Queued
-finished s q = record { key = q.key; session = q.session; read = q.read; written = q.written; pending = q.pending && not (own_pending s q) }
+finished s q = record q { pending = q.pending && not (own_pending s q) }
 
 -- the change is gone
 abbrev pub aborted : Session → Session
-aborted p = record { desk = p.desk; work = no_work }
+aborted p = record p { work = no_work }
 
 -- the slots that a learn drops: those with notices
 abbrev pub learn_drops : Desk → ℕ → Bool
@@ -123,11 +108,7 @@ ends_change n p = is_opened p.work.phase && meets n p.work.read (learn_drops p.d
 -- the slots dropped are no longer held, and the last learnt number is the notice number
 abbrev pub having_learnt : ℕ → ℕ → Session → Session
 having_learnt n k p = record {
-  desk = record {
-    copies = λ x. cond (learn_drops p.desk x) None (p.desk.copies x);
-    notices = p.desk.notices;
-    learnt = k;
-  };
+  desk = record p.desk { copies = λ x. cond (learn_drops p.desk x) None (p.desk.copies x); learnt = k };
   work = cond (ends_change n p) no_work p.work;
 }
 
@@ -138,10 +119,7 @@ up_to_gone n (Some k) = cond (nat_le k n) None (Some k)
 
 -- the notices up to the number go, on slots held and others
 abbrev pub receipted : ℕ → Session → Session
-receipted n p = record {
-  desk = record { copies = p.desk.copies; notices = λ x. up_to_gone n (p.desk.notices x); learnt = p.desk.learnt };
-  work = p.work;
-}
+receipted n p = record p { desk = record p.desk { notices = λ x. up_to_gone n (p.desk.notices x) } }
 
 -- the later of the threshold and a key
 abbrev pub later : Option Key → Key → Key
@@ -163,33 +141,17 @@ effect b (fetch s x) = with_session s (fetched x (rule_in b.entries x)) b
 effect b (read s x) = with_session s (having_read x) b
 effect b (write s x r) = with_session s (having_written x r) b
 effect b (drop s x) = with_session s (dropped x) b
-effect b (forward s k) = record {
-  entries = b.entries;
-  sessions = changed s put_forward b.sessions;
-  queue = b.queue ++ entry_of s k (work_of b s) ∷ [];
-  threshold = b.threshold;
-  number = b.number;
-}
-effect b (commit s) = record {
+effect b (forward s k) = record b { sessions = changed s put_forward b.sessions; queue = b.queue ++ entry_of s k (work_of b s) ∷ [] }
+effect b (commit s) = record b {
   entries = puts (count b) (work_of b s).staged b.entries;
   sessions = λ t. cond (t == s) (committed (b.sessions t)) (notified (replaced b s) (number_after b s) (b.sessions t));
   queue = map (finished s) b.queue;
-  threshold = b.threshold;
   number = number_after b s;
 }
-effect b (abort s) = record {
-  entries = b.entries;
-  sessions = changed s aborted b.sessions;
-  queue = filter (λ q. not (own_pending s q)) b.queue;
-  threshold = b.threshold;
-  number = b.number;
-}
+effect b (abort s) = record b { sessions = changed s aborted b.sessions; queue = filter (λ q. not (own_pending s q)) b.queue }
 effect b (learn s) = with_session s (having_learnt (count b) b.number) b
 effect b (receipt s n) = with_session s (receipted n) b
-effect b (truncate k) = record {
-  entries = b.entries;
-  sessions = b.sessions;
+effect b (truncate k) = record b {
   queue = queue_after b k;
   threshold = Some (later b.threshold k);
-  number = b.number;
 }

@@ -7,36 +7,30 @@
 ghost use Rattle.calls.specs.Histories.{LawOfRuns, LawOfReached, CommitsOfReached, BoundsOfReached, OrdersOfReached};
 
 // From a book just made over any list of entries, every list of calls, answered as defined, keeps the law.
-pub fn law_stands() -> u8
+pub fn law_stands()
     ensures { LawOfRuns }
-{
-    0
-}
+{}
 
 // The same at each moment: of every state that is reached.
-pub fn law_stands_at_each_moment() -> u8
+#[tactic(auto, using(crate::proofs::Steps::law_of_reached))]
+pub fn law_stands_at_each_moment()
     ensures { LawOfReached }
-{
-    0
-}
+{}
 
 // No commit is refused by its store.
-pub fn commits_stand() -> u8
+#[tactic(auto, using(crate::proofs::Steps::commits_of_reached))]
+pub fn commits_stand()
     ensures { CommitsOfReached }
-{
-    0
-}
+{}
 
 // Notice numbers fit 32 bits, and the queue fits 32 places.
-pub fn bounds_stand() -> u8
+#[tactic(auto, using(crate::proofs::Bounds::bounds_of_reached))]
+pub fn bounds_stand()
     ensures { BoundsOfReached }
-{
-    0
-}
+{}
 
 // Every order of the committed changes in which clashing ones follow their stamps explains the entries.
-pub fn orders_stand() -> u8
+#[tactic(auto, using(crate::proofs::Steps::orders_of_reached))]
+pub fn orders_stand()
     ensures { OrdersOfReached }
-{
-    0
-}
+{}

@@ -1,10 +1,21 @@
 -- The count that an image tells fits its size. Assumes nothing.
-use Rattle.std.proofs.Common.{◌≡◌, ℕ, ◌+◌, ◌*◌, ◌≤◌, Bool, true, false, cond, ◌&&◌, eqb, leb, ◌⊎◌, List, length, get_or, Ok, Err, Result, refl, inl, inr, ⊎_elim, arith}
-use Rattle.std.proofs.lemmas.Bool.{and_parts, and_from, leb-true, le-leb, eqb-true, eq-eqb}
+use Rattle.std.proofs.Common.{◌≡◌, ℕ, ◌+◌, ◌*◌, ◌/◌, ◌%◌, ◌≤◌, Bool, true, false, cond, ◌&&◌, eqb, leb, ◌⊎◌, List, [], length, get_or, slice_index, drop, Ok, Err, Result, refl, sym, ap, ◌∙◌, inl, inr, ⊎_elim, arith}
+use Rattle.std.specs.Simd.{first_chunks}
+use Rattle.std.proofs.lemmas.List.{get_or-take, get_or-drop}
+use Rattle.std.proofs.lemmas.Bool.{and_parts, and_from, leb-true, le-leb, eqb-true, eq-eqb, ne_eqb, cond-true, cond-false}
 use Rattle.refusal.specs.declared.Refusal.{Refusal}
 use Rattle.block.specs.Memory.{blocks, fits, block_entries}
 use Rattle.block.specs.Memories.{length_entries}
 use Rattle.image.specs.Image.{count_with, image_count}
+
+-- two whole blocks, the second of which tells its slots
+pub two_blocks : (bytes : List ℕ) → length bytes / 512 ≡ 2 → length bytes % 512 ≡ 0 → count_with 1 (slice_index (get_or (first_chunks 512 (length bytes / 512) bytes) 1 []) 3) ≡ image_count bytes
+two_blocks bytes two whole =
+    let long : length bytes ≡ 1024 = omega arith in
+    let byte : slice_index (get_or (first_chunks 512 (length bytes / 512) bytes) 1 []) 3 ≡ slice_index bytes 515 =
+    ap (λ n. slice_index (get_or (first_chunks 512 n bytes) 1 []) 3) two ∙ get_or-take 512 (drop 512 bytes) 3 0 (omega arith) ∙ get_or-drop 512 bytes 3 0 in
+    ap (count_with 1) byte
+    ∙ sym (cond-false _ _ _ (ne_eqb (length bytes) 512 (λ e. omega arith)) ∙ cond-true _ _ _ (eq-eqb (length bytes) 1024 long))
 
 -- which of the two came
 either : (b : Bool) (x y z : Result ℕ Refusal) → cond b x y ≡ z → ((b ≡ true) × (x ≡ z)) ⊎ ((b ≡ false) × (y ≡ z))

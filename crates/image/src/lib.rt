@@ -4,30 +4,38 @@
 // and no block is damaged.
 #![tactic(auto)]
 
-ghost use Rattle.std.specs.Prelude.{◌≡◌, length, IfOk, Ok, Err, MatchResult};
+ghost use Rattle.std.specs.Prelude.{◌≡◌, ◌≤◌, length, slice_index, IfOk, Ok, Err, MatchResult};
 ghost use Rattle.block.specs.Memory.{block_entries};
-ghost use Rattle.image.specs.Image.{image_count, image_check};
+ghost use Rattle.image.specs.Image.{count_with, image_count, image_check};
 
 use block::block_store::BlockStore;
+use block::{BLOCK, SLOTS, SLOTS_AT};
 use refusal::{Damage, Fault, Refusal};
 
-// How many slots the image has.
-pub fn count(bytes: &[u8]) -> Result<u32, Refusal>
-    ensures { result ≡ image_count bytes.now }
+// How many slots an image has with so many whole blocks before its last one.
+fn count_with(before: u32, last: &[u8; BLOCK]) -> Result<u32, Refusal>
+    requires { before ≤ 1 }
+    ensures { result ≡ count_with before (slice_index last.now 3) }
 {
-    let before = match bytes.len() {
-        512 => 0,
-        1024 => 1,
-        _ => return Err(Refusal::WrongSize),
-    };
-    let last = u32::from(bytes[512 * before as usize + 3]);
-    if last == 0 || last > 32 {
+    let slots = u32::from(last[SLOTS_AT]);
+    if !(1..=SLOTS).contains(&slots) {
         return Err(Refusal::Damaged(Damage {
             fault: Fault::Head,
             block: before,
         }));
     }
-    Ok(32 * before + last)
+    Ok(SLOTS * before + slots)
+}
+
+// How many slots the image has.
+pub fn count(bytes: &[u8]) -> Result<u32, Refusal>
+    ensures { result ≡ image_count bytes.now }
+{
+    match bytes.as_chunks::<BLOCK>() {
+        ([last], []) => count_with(0, last),
+        ([_, last], []) => count_with(1, last),
+        _ => Err(Refusal::WrongSize),
+    }
 }
 
 // The store in an image.
@@ -36,7 +44,7 @@ pub fn open(bytes: Vec<u8>) -> Result<BlockStore, Refusal>
     ensures memory { IfOk result (λ s. s.bytes ≡ bytes) }
     ensures all_slots { IfOk result (λ s. length (block_entries bytes.items s.count) ≡ s.count) }
 {
-    let slots = count(bytes.as_slice())?;
+    let slots = count(&bytes)?;
     let store = BlockStore::new(bytes, slots);
     store.check_entries()?;
     Ok(store)

@@ -1,19 +1,12 @@
 -- The law of reordering: operations that do not meet may change places, hence changes that do not clash, hence all that stands in between. Assumes nothing.
-use Rattle.std.proofs.Common.{◌≡◌, ℕ, zero, suc, ◌<◌, Bool, true, false, ◌&&◌, ◌||◌, eqb, List, [], ◌∷◌, ◌++◌, length, set, is_some, Some, sym, refl, ap, ◌∙◌, subst, ⊎_elim, length-set}
+use Rattle.std.proofs.Common.{◌≡◌, ℕ, ◌<◌, Bool, true, ◌&&◌, ◌||◌, eqb, List, [], ◌∷◌, ◌++◌, length, set, is_some, Some, sym, refl, ap, ◌∙◌, subst, arith, length-set}
 use Rattle.std.specs.List.{slice_get, flat_map, AllByRecursion}
 use Rattle.std.proofs.lemmas.List.{set_comm}
-use Rattle.std.proofs.lemmas.Bool.{eq-eqb, or_left, or_right, or_cases, and_from, cond-true, cond_both}
+use Rattle.std.proofs.lemmas.Bool.{eq-eqb, or_left, or_right, and_from, cond-true}
 use Rattle.law.specs.Operations.{Operation, reading, writing, Serial, then_reading, then_writing, latest, wrote, has_read, touched}
 use Rattle.law.specs.Changes.{Change, Clash, Explains}
 use Rattle.law.specs.Orders.{Insertion, here, behind, Reordering, empty, put_in, Fits, ReorderingLaw}
-
--- an entry elsewhere is not touched by a set
-pub nth_set_other : {X : Type 0} (l : List X) (x y : ℕ) (e : X) → (x ≡ y → ⊥) → slice_get (set l y e) x ≡ slice_get l x
-nth_set_other [] x y e ne = refl
-nth_set_other (a ∷ l) zero zero e ne = absurd (ne refl)
-nth_set_other (a ∷ l) zero (suc y) e ne = refl
-nth_set_other (a ∷ l) (suc x) zero e ne = refl
-nth_set_other (a ∷ l) (suc x) (suc y) e ne = nth_set_other l x y e (λ q. ne (ap suc q))
+use Rattle.law.proofs.Lists.{slice_get-set_other}
 
 module _ {R : Type 0} where
   -- two operations do not meet: both are readings, or their slots differ
@@ -35,9 +28,9 @@ module _ {R E : Type 0} (intact : R → E) (first : List E) where
       → Serial intact first (q ∷ p ∷ ops) last
   swap (reading x r) (reading y s) ops last ap (then_reading _ _ (then_reading _ _ run e) d) = then_reading y s (then_reading x r run d) e
   swap (reading x r) (writing y s) ops last ne (then_reading _ _ (then_writing {before = mid} _ _ run lt e) d) =
-      then_writing y s (then_reading x r run (sym (nth_set_other mid x y (intact s) ne) ∙ ap (λ l. slice_get l x) (sym e) ∙ d)) lt e
+      then_writing y s (then_reading x r run (sym (slice_get-set_other mid x y (intact s) ne) ∙ ap (λ l. slice_get l x) (sym e) ∙ d)) lt e
   swap (writing x r) (reading y s) ops last ne (then_writing {before = mid} _ _ (then_reading _ _ run d) lt e) =
-      then_reading y s (then_writing x r run lt e) (ap (λ l. slice_get l y) e ∙ nth_set_other mid y x (intact r) ne ∙ d)
+      then_reading y s (then_writing x r run lt e) (ap (λ l. slice_get l y) e ∙ slice_get-set_other mid y x (intact r) ne ∙ d)
   swap (writing x r) (writing y s) ops last ne (then_writing _ _ (then_writing {before = mid} _ _ run below d) lt e) =
       then_writing y s (then_writing x r run (subst (λ n. x < n) (ap length d ∙ length-set mid y (intact s)) lt) refl)
       (subst (λ n. y < n) (sym (length-set mid x (intact r))) below)
@@ -69,16 +62,14 @@ module _ {R : Type 0} where
 
   pub wrote_more : (o : Operation R) (ops : List (Operation R)) (x : ℕ) → wrote ops x ≡ true → wrote (o ∷ ops) x ≡ true
   wrote_more (reading y r) ops x w = w
-  wrote_more (writing y r) ops x w = cond_both (eqb x y) (Some r) (latest ops x) (λ o. is_some o ≡ true) (λ _. refl) (λ _. w)
+  wrote_more (writing y r) ops x w = grind arith
 
   pub touched_here : (x y : ℕ) (r : R) (ops : List (Operation R)) → x ≡ y → touched (reading y r ∷ ops) x ≡ true
   touched_here x y r ops q = or_left _ _ (or_left _ _ (eq-eqb x y q))
 
   pub touched_more : (o : Operation R) (ops : List (Operation R)) (x : ℕ) → touched ops x ≡ true → touched (o ∷ ops) x ≡ true
-  touched_more (reading y r) ops x t =
-      ⊎_elim (λ h. or_left _ _ (or_right (eqb x y) _ h)) (λ w. or_right (eqb x y || has_read ops x) _ w) (or_cases _ _ t)
-  touched_more (writing y r) ops x t =
-      ⊎_elim (λ h. or_left _ _ h) (λ w. or_right (has_read ops x) _ (wrote_more (writing y r) ops x w)) (or_cases _ _ t)
+  touched_more (reading y r) ops x t = grind arith
+  touched_more (writing y r) ops x t = grind (arith, wrote_more (writing y r) ops x)
 
   apart_reading : (x : ℕ) (r : R) (bs : List (Operation R)) → (wrote bs x ≡ true → ⊥) → AllByRecursion (Apart (reading x r)) bs
   apart_reading x r [] no_write = tt
@@ -110,22 +101,7 @@ module _ {R : Type 0} where
   clash_flip a b (x, e) = (x, flip (wrote a.ops x) (touched a.ops x) (wrote b.ops x) (touched b.ops x) e)
     where
       flip : (w t v u : Bool) → ((w && u) || (t && v)) ≡ true → ((v && t) || (u && w)) ≡ true
-      flip true true true true e = refl
-      flip true true true false e = refl
-      flip true true false true e = refl
-      flip true true false false e = e
-      flip true false true true e = refl
-      flip true false true false e = e
-      flip true false false true e = refl
-      flip true false false false e = e
-      flip false true true true e = refl
-      flip false true true false e = refl
-      flip false true false true e = e
-      flip false true false false e = e
-      flip false false true true e = e
-      flip false false true false e = e
-      flip false false false true e = e
-      flip false false false false e = e
+      flip w t v u e = grind arith
 
 -- a change, put in, stands before those in front of it
 module _ {R : Type 0} (before : Change R → Change R → Bool) {a : Change R} where

@@ -1,40 +1,11 @@
 -- Runs of operations by what each slot holds: the same as carrying them out on a list, and easier to argue with. Assumes nothing.
-use Rattle.std.proofs.Common.{◌≡◌, ℕ, zero, suc, ◌<◌, Bool, true, false, cond, eqb, List, [], ◌∷◌, ◌++◌, length, set, is_some, Some, None, Option, sym, refl, ap, ◌∙◌, subst, arith}
-use mathlib.Core.Bool.{false≢true}
+use Rattle.std.proofs.Common.{◌≡◌, ℕ, ◌<◌, Bool, true, false, cond, eqb, List, [], ◌∷◌, ◌++◌, length, set, is_some, Some, None, Option, sym, refl, ap, ◌∙◌, subst}
 use Rattle.std.specs.List.{slice_get, flat_map}
-use Rattle.std.proofs.lemmas.Bool.{eq-eqb, eqb-true, eqb-false, or_right, cond-true, cond_both}
+use Rattle.std.proofs.lemmas.Bool.{or_right}
 use Rattle.law.specs.Operations.{Operation, reading, writing, Serial, nothing, then_reading, then_writing, latest, has_read, touched}
 use Rattle.law.specs.Changes.{Change, Explains, committed_of}
-use Rattle.law.proofs.Reorder.{nth_set_other, touched_here, touched_more}
-
-nth_set_here : {X : Type 0} (l : List X) (x : ℕ) (e : X) → x < length l → slice_get (set l x e) x ≡ Some e
-nth_set_here [] x e lt = absurd (omega arith)
-nth_set_here (a ∷ l) zero e lt = refl
-nth_set_here (a ∷ l) (suc x) e lt = nth_set_here l x e (omega arith)
-
-pub nth_set : {X : Type 0} (l : List X) (x y : ℕ) (e : X) → x < length l → slice_get (set l x e) y ≡ cond (eqb y x) (Some e) (slice_get l y)
-nth_set l x y e lt = cond_both (eqb y x) (Some e) (slice_get l y) (λ o. slice_get (set l x e) y ≡ o)
-    (λ q. ap (λ z. slice_get (set l x e) z) (eqb-true y x q) ∙ nth_set_here l x e lt)
-    (λ q. nth_set_other l y x e (eqb-false y x q))
-
--- a slot that holds something is inside
-pub inside : {X : Type 0} (l : List X) (x : ℕ) → is_some (slice_get l x) ≡ true → x < length l
-inside [] x e = absurd (false≢true e)
-inside (a ∷ l) zero e = omega arith
-inside (a ∷ l) (suc x) e = let h = inside l x e in omega arith
-
-pub filled : {X : Type 0} (l : List X) (x : ℕ) → x < length l → is_some (slice_get l x) ≡ true
-filled [] x lt = absurd (omega arith)
-filled (a ∷ l) zero lt = refl
-filled (a ∷ l) (suc x) lt = filled l x (omega arith)
-
--- two lists that hold the same in each slot are one
-pub same_entries : {X : Type 0} (l k : List X) → ((x : ℕ) → slice_get l x ≡ slice_get k x) → l ≡ k
-same_entries [] [] same = refl
-same_entries [] (b ∷ k) same = absurd (false≢true (ap is_some (same 0)))
-same_entries (a ∷ l) [] same = absurd (false≢true (sym (ap is_some (same 0))))
-same_entries {X} (a ∷ l) (b ∷ k) same =
-    let h : Some a ≡ Some b = same 0 in let q : a ≡ b = cc in ap (λ z. z ∷ l) q ∙ ap {B = List X} (λ z. b ∷ z) (same_entries l k (λ x. same (suc x)))
+use Rattle.law.proofs.Lists.{slice_get-set, inside, same_entries}
+use Rattle.law.proofs.Reorder.{wrote_here, touched_here, touched_more}
 
 module _ {R E : Type 0} (intact : R → E) where
   -- what a slot holds after its latest writing, if there was one
@@ -57,7 +28,7 @@ module _ {R E : Type 0} (intact : R → E) where
     right_local m k ops (λ y t. same y (touched_more (reading x r) ops y t)) right.1,
   )
   right_local m k (writing x r ∷ ops) same right = (
-    ap is_some (sym (same x (or_right (has_read ops x) _ (ap is_some (cond-true (eqb x x) (Some r) (latest ops x) (eq-eqb x x refl))))))
+    ap is_some (sym (same x (or_right (has_read ops x) _ (wrote_here x x r ops refl))))
         ∙ right.0,
     right_local m k ops (λ y t. same y (touched_more (writing x r) ops y t)) right.1,
   )
@@ -82,7 +53,7 @@ module _ {R E : Type 0} (intact : R → E) where
       let lt : x < length run.0 = inside run.0 x (ap is_some (run.2 x) ∙ over_some (latest ops x) (slice_get l x) right.0) in (
         set run.0 x (intact r),
         then_writing x r run.1 lt refl,
-        λ y. nth_set run.0 x y (intact r) lt ∙ ap (λ o. cond (eqb y x) (Some (intact r)) o) (run.2 y)
+        λ y. slice_get-set run.0 x y (intact r) lt ∙ ap (λ o. cond (eqb y x) (Some (intact r)) o) (run.2 y)
             ∙ over_cond (eqb y x) r (latest ops y) (slice_get l y),
       )
 

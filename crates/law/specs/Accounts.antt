@@ -63,7 +63,7 @@ changed n f g m = cond (m == n) (f (g m)) (g m)
 module _ {R : Type 0} where
   -- one more operation
   abbrev pub with_operation : Operation R → Draft R → Draft R
-  with_operation o d = record { began = d.began; ops = o ∷ d.ops }
+  with_operation o d = record d { ops = o ∷ d.ops }
 
   -- a draft put forward joins the accepted changes, pending
   abbrev pub joined_by : List (Change R) → ℕ → Key → Option (Draft R) → List (Change R)
@@ -76,13 +76,7 @@ module _ {R : Type 0} where
 
   -- the pending change of a session is committed at a place
   abbrev pub commit_at : ℕ → ℕ → Change R → Change R
-  commit_at s p c = record {
-    session = c.session;
-    key = c.key;
-    began = c.began;
-    ops = c.ops;
-    committed = cond (pending_of s c) (Some p) c.committed;
-  }
+  commit_at s p c = record c { committed = cond (pending_of s c) (Some p) c.committed }
 
   -- the slots that a commit of a session replaces: those that its pending change wrote
   abbrev pub replaced_by : ℕ → List (Change R) → ℕ → Bool
@@ -91,19 +85,19 @@ module _ {R : Type 0} where
 
   -- one place further, and nothing else
   abbrev pub onward : Account R → Account R
-  onward a = record { place = suc a.place; drafts = a.drafts; accepted = a.accepted; taken = a.taken; replacings = a.replacings }
+  onward a = record a { place = suc a.place }
 
   -- the account with other drafts
   abbrev pub with_drafts : (ℕ → Option (Draft R)) → Account R → Account R
-  with_drafts f a = record { place = a.place; drafts = f; accepted = a.accepted; taken = a.taken; replacings = a.replacings }
+  with_drafts f a = record a { drafts = f }
 
   -- the account with other accepted changes
   abbrev pub with_accepted : List (Change R) → Account R → Account R
-  with_accepted cs a = record { place = a.place; drafts = a.drafts; accepted = cs; taken = a.taken; replacings = a.replacings }
+  with_accepted cs a = record a { accepted = cs }
 
   -- the account with other takings
   abbrev pub with_taken : (ℕ → ℕ → Option ℕ) → Account R → Account R
-  with_taken f a = record { place = a.place; drafts = a.drafts; accepted = a.accepted; taken = f; replacings = a.replacings }
+  with_taken f a = record a { taken = f }
 
   -- a step makes one account into another
   abbrev pub after : Step R → Account R → Account R
@@ -115,9 +109,8 @@ module _ {R : Type 0} where
       onward (with_drafts (changed s (λ _. None) a.drafts) (with_accepted (joined_by a.accepted s k (a.drafts s)) a))
   after (forwards s k (stale x)) a = onward a
   after (forwards s k withheld) a = onward a
-  after (commits s) a = record {
+  after (commits s) a = record a {
     place = suc a.place;
-    drafts = a.drafts;
     accepted = map (commit_at s a.place) a.accepted;
     -- with its commit the session takes what it wrote
     taken = changed s (λ t x. cond (replaced_by s a.accepted x) (Some a.place) (t x)) a.taken;

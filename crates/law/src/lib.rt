@@ -8,8 +8,7 @@ ghost use Rattle.law.specs.Orders.{ReorderingStands};
 
 // Every order in which clashing changes stand as a relation has them explains what one such order explains.
 // Proved for every kind of rule and entry; stated here for numbers as rules and numbers or nothing as entries.
-pub fn reordering_stands() -> u8
+#[tactic(auto, using(crate::proofs::Reorder::reordering_law))]
+pub fn reordering_stands()
     ensures { ReorderingStands }
-{
-    0
-}
+{}

@@ -14,10 +14,9 @@ impl Ledger {
     pub fn new(heap: Global) -> Result<Ledger, AllocError>
         ensures { IfOk result (λ g. (sessions_of g.sessions.records ≡ (λ _. fresh)) × (queue_view g.queue ≡ []) × (g.threshold ≡ None) × (g.number ≡ 0)) }
     {
-        let queue = Queue::new(heap)?;
         Ok(Ledger {
             sessions: Sessions::new(),
-            queue,
+            queue: Queue::new(heap)?,
             threshold: None,
             number: 0,
         })

@@ -1,3 +1,4 @@
 pub mod Stepping
 pub mod OneText
 pub mod ReadsBack
+pub mod Cuts

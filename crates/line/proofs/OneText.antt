@@ -1,16 +1,16 @@
 -- A line that reads as a call is the text of that call. Assumes nothing.
 use Rattle.std.proofs.Common.{◌≡◌, ℕ, ◌+◌, Bool, true, false, cond, eqb, ltb, List, [], ◌∷◌, ◌++◌, length, Some, None, Ok, Err, decimal, Option, Result, sym, refl, ap, ◌∙◌, subst, arith}
-use Rattle.std.specs.Option.{ok_or}
+use Rattle.std.specs.Option.{option_map, ok_or}
 use Rattle.std.proofs.lemmas.Bool.{eqb-true}
+use Rattle.text.specs.Steps.{and_then}
 use Rattle.text.proofs.Decimal.{decimal_number}
-use Rattle.text.proofs.Options.{then_parts, mapped_parts}
+use Rattle.text.proofs.Options.{then_parts, option_map_some}
 use Rattle.refusal.specs.declared.Refusal.TheVariants.{NoRule, Unreadable}
-use Rattle.rule.specs.declared.Action.{Action}
 use Rattle.rule.specs.declared.Parts.{Parts}
 use Rattle.rule.specs.declared.Rule.{Rule}
-use Rattle.rule.specs.Making.{action_number, numbered, parts_of, make}
+use Rattle.rule.specs.Making.{action_number, parts_of, make}
 use Rattle.rule.specs.Reading.{network_of, action_of, ports_of, parts_in, fields}
-use Rattle.rule.specs.Text.{network_text, action_text, ports_text, text}
+use Rattle.rule.specs.Text.{text}
 use Rattle.rule.proofs.Rules.{numbered_number, parts_make}
 use Rattle.rule.proofs.Fields.{spaced, spaced_fields}
 use Rattle.rule.proofs.FieldTexts.{text_of_network, text_of_action, text_of_ports}
@@ -32,20 +32,14 @@ texts_placed at (f ∷ fs) = ap (λ l. f ∷ l) (texts_placed (at + length f + 1
 number_text : (f : List ℕ) (n : ℕ) → numeral f ≡ Some n → f ≡ decimal n
 number_text f n e = (decimal_number 4294967295 n f (omega arith) e).0
 
-rule_by : (f g h : List ℕ) (r : Rule) (x y : ℕ × ℕ) (a : Action) → f ≡ network_text x.0 x.1 → g ≡ action_text a → h ≡ ports_text y.0 y.1 → r.address ≡ x.0 → r.prefix ≡ x.1 → r.action ≡ a → r.first ≡ y.0 → r.last ≡ y.1 → f ++ 32 ∷ (g ++ 32 ∷ h) ≡ text r
-rule_by f g h r x y a p q s t u v w z = cc
-
 -- three fields whose parts make a rule are its text
 rule_text : (f g h : List ℕ) (q : Parts) (r : Rule) → parts_in (f ∷ g ∷ h ∷ []) ≡ Some q → make q ≡ Some r → f ++ 32 ∷ (g ++ 32 ∷ h) ≡ text r
 rule_text f g h q r e m =
     let n = then_parts (network_of f) _ q e in
     let a = then_parts (action_of g) _ q n.2 in
-    let p = mapped_parts _ (ports_of h) q a.2 in
+    let p = option_map_some _ (ports_of h) q a.2 in
     let all : parts_of r ≡ record { address = n.0.0; prefix = n.0.1; action = action_number a.0; first = p.0.0; last = p.0.1 } = parts_make q r m ∙ sym p.2 in
-    rule_by f g h r n.0 p.0 a.0 (text_of_network f n.0 n.1) (text_of_action g a.0 a.1) (text_of_ports h p.0 p.1)
-    (ap (λ (z : Parts). z.address) all) (ap (λ (z : Parts). z.prefix) all)
-    (sym (numbered_number r.action) ∙ ap (λ (z : Parts). numbered z.action) all ∙ numbered_number a.0)
-    (ap (λ (z : Parts). z.first) all) (ap (λ (z : Parts). z.last) all)
+    grind (arith, all, numbered_number, text_of_network f n.0 n.1, text_of_action g a.0 a.1, text_of_ports h p.0 p.1)
 
 ok_some : {X Y : Type 0} (o : Option X) (e : Y) (x : X) → ok_or o e ≡ Ok x → o ≡ Some x
 ok_some None e x h = absurd (grind arith)
@@ -79,49 +73,35 @@ module _ {S : Type 0} (reads : List ℕ → Option S) (stamp : S → List ℕ) (
   written_none : (b : ℕ) → Written b None
   written_none b fs c e = absurd (grind arith)
 
-  written_session : (b : ℕ) (call : ℕ → Call S) → ((s : ℕ) → b ∷ 32 ∷ decimal s ≡ call_text stamp (call s)) → Written b (Some (of_session call))
-  written_session b call is fs c e = let ok = read_ok (of_session call) fs c e in by fs ok.0 ok.1
+  -- a letter and one field, whatever it is read as
+  written_one : {X : Type 0} (read : List ℕ → Option X) (text : X → List ℕ) → ((f : List ℕ) (x : X) → read f ≡ Some x → f ≡ text x) → (b : ℕ) (φ : Form S) (call : X → Call S) → length (kinds φ) ≡ 1 → ((f : ℕ × List ℕ) → call_in reads φ (f ∷ []) ≡ option_map call (read f.1)) → ((x : X) → b ∷ 32 ∷ text x ≡ call_text stamp (call x)) → Written b (Some φ)
+  written_one read text says b φ call one made is fs c e = let ok = read_ok φ fs c e in by fs (ok.0 ∙ one) ok.1
     where
-      by : (fs : List (ℕ × List ℕ)) → length fs ≡ 1 → call_in reads (of_session call) fs ≡ Some c → spaced ((b ∷ []) ∷ texts fs) ≡ call_text stamp c
+      by : (fs : List (ℕ × List ℕ)) → length fs ≡ 1 → call_in reads φ fs ≡ Some c → spaced ((b ∷ []) ∷ texts fs) ≡ call_text stamp c
       by [] n h = absurd (omega arith)
-      by (f ∷ []) n h = let s = mapped_parts call (numeral f.1) c h in ap (λ l. b ∷ 32 ∷ l) (number_text f.1 s.0 s.1) ∙ is s.0 ∙ ap (call_text stamp) s.2
+      by (f ∷ []) n h = let x = option_map_some call (read f.1) c (sym (made f) ∙ h) in ap (λ l. b ∷ 32 ∷ l) (says f.1 x.0 x.1) ∙ is x.0 ∙ ap (call_text stamp) x.2
       by (f ∷ g ∷ fs) n h = absurd (omega arith)
+
+  -- a letter, a number and one field more
+  written_two : {X : Type 0} (read : List ℕ → Option X) (text : X → List ℕ) → ((f : List ℕ) (x : X) → read f ≡ Some x → f ≡ text x) → (b : ℕ) (φ : Form S) (call : ℕ → X → Call S) → length (kinds φ) ≡ 2 → ((f g : ℕ × List ℕ) → call_in reads φ (f ∷ g ∷ []) ≡ and_then (numeral f.1) (λ s. option_map (call s) (read g.1))) → ((s : ℕ) (x : X) → b ∷ 32 ∷ decimal s ++ 32 ∷ text x ≡ call_text stamp (call s x)) → Written b (Some φ)
+  written_two read text says b φ call two made is fs c e = let ok = read_ok φ fs c e in by fs (ok.0 ∙ two) ok.1
+    where
+      by : (fs : List (ℕ × List ℕ)) → length fs ≡ 2 → call_in reads φ fs ≡ Some c → spaced ((b ∷ []) ∷ texts fs) ≡ call_text stamp c
+      by [] n h = absurd (omega arith)
+      by (f ∷ []) n h = absurd (omega arith)
+      by (f ∷ g ∷ []) n h =
+          let s = then_parts (numeral f.1) _ c (sym (made f g) ∙ h) in
+          let m = option_map_some (call s.0) (read g.1) c s.2 in
+          let x = number_text f.1 s.0 s.1 in
+          let y = says g.1 m.0 m.1 in
+          (λ i. b ∷ 32 ∷ x i ++ 32 ∷ y i) ∙ is s.0 m.0 ∙ ap (call_text stamp) m.2
+      by (f ∷ g ∷ h ∷ fs) n e = absurd (omega arith)
+
+  written_session : (b : ℕ) (call : ℕ → Call S) → ((s : ℕ) → b ∷ 32 ∷ decimal s ≡ call_text stamp (call s)) → Written b (Some (of_session call))
+  written_session b call is = written_one numeral decimal number_text b (of_session call) call refl (λ f. refl) is
 
   written_numbers : (b : ℕ) (call : ℕ → ℕ → Call S) → ((s n : ℕ) → b ∷ 32 ∷ decimal s ++ 32 ∷ decimal n ≡ call_text stamp (call s n)) → Written b (Some (of_numbers call))
-  written_numbers b call is fs c e = let ok = read_ok (of_numbers call) fs c e in by fs ok.0 ok.1
-    where
-      by : (fs : List (ℕ × List ℕ)) → length fs ≡ 2 → call_in reads (of_numbers call) fs ≡ Some c → spaced ((b ∷ []) ∷ texts fs) ≡ call_text stamp c
-      by [] n h = absurd (omega arith)
-      by (f ∷ []) n h = absurd (omega arith)
-      by (f ∷ g ∷ []) n h =
-          let s = then_parts (numeral f.1) _ c h in
-          let m = mapped_parts (call s.0) (numeral g.1) c s.2 in
-          let x = number_text f.1 s.0 s.1 in
-          let y = number_text g.1 m.0 m.1 in
-          (λ i. b ∷ 32 ∷ x i ++ 32 ∷ y i) ∙ is s.0 m.0 ∙ ap (call_text stamp) m.2
-      by (f ∷ g ∷ h ∷ fs) n e = absurd (omega arith)
-
-  written_change : (b : ℕ) (call : ℕ → S → Call S) → ((s : ℕ) (x : S) → b ∷ 32 ∷ decimal s ++ 32 ∷ stamp x ≡ call_text stamp (call s x)) → Written b (Some (of_change call))
-  written_change b call is fs c e = let ok = read_ok (of_change call) fs c e in by fs ok.0 ok.1
-    where
-      by : (fs : List (ℕ × List ℕ)) → length fs ≡ 2 → call_in reads (of_change call) fs ≡ Some c → spaced ((b ∷ []) ∷ texts fs) ≡ call_text stamp c
-      by [] n h = absurd (omega arith)
-      by (f ∷ []) n h = absurd (omega arith)
-      by (f ∷ g ∷ []) n h =
-          let s = then_parts (numeral f.1) _ c h in
-          let m = mapped_parts (call s.0) (reads g.1) c s.2 in
-          let x = number_text f.1 s.0 s.1 in
-          let y = one g.1 m.0 m.1 in
-          (λ i. b ∷ 32 ∷ x i ++ 32 ∷ y i) ∙ is s.0 m.0 ∙ ap (call_text stamp) m.2
-      by (f ∷ g ∷ h ∷ fs) n e = absurd (omega arith)
-
-  written_stamp : (b : ℕ) (call : S → Call S) → ((x : S) → b ∷ 32 ∷ stamp x ≡ call_text stamp (call x)) → Written b (Some (of_stamp call))
-  written_stamp b call is fs c e = let ok = read_ok (of_stamp call) fs c e in by fs ok.0 ok.1
-    where
-      by : (fs : List (ℕ × List ℕ)) → length fs ≡ 1 → call_in reads (of_stamp call) fs ≡ Some c → spaced ((b ∷ []) ∷ texts fs) ≡ call_text stamp c
-      by [] n h = absurd (omega arith)
-      by (f ∷ []) n h = let s = mapped_parts call (reads f.1) c h in ap (λ l. b ∷ 32 ∷ l) (one f.1 s.0 s.1) ∙ is s.0 ∙ ap (call_text stamp) s.2
-      by (f ∷ g ∷ fs) n h = absurd (omega arith)
+  written_numbers b call is = written_two numeral decimal number_text b (of_numbers call) call refl (λ f g. refl) is
 
   written_rule : Written 119 (Some (of_rule Write))
   written_rule fs c e = let ok = read_ok (of_rule Write) fs c e in by fs ok.0 ok.1
@@ -136,7 +116,7 @@ module _ {S : Type 0} (reads : List ℕ → Option S) (stamp : S → List ℕ) (
           let s = then_parts (numeral f.1) _ c h in
           let m = then_parts (numeral g.1) _ c s.2 in
           let q = then_parts (parts_in (i.1 ∷ j.1 ∷ k.1 ∷ [])) _ c m.2 in
-          let r = mapped_parts (Write s.0 m.0) (make q.0) c q.2 in
+          let r = option_map_some (Write s.0 m.0) (make q.0) c q.2 in
           let x = number_text f.1 s.0 s.1 in
           let y = number_text g.1 m.0 m.1 in
           let z = rule_text i.1 j.1 k.1 q.0 r.0 q.1 r.1 in
@@ -157,12 +137,12 @@ module _ {S : Type 0} (reads : List ℕ → Option S) (stamp : S → List ℕ) (
       (pick b 114 _ _ (written_numbers 114 Read (λ s n. refl))
       (pick b 119 _ _ written_rule
       (pick b 100 _ _ (written_numbers 100 Drop (λ s n. refl))
-      (pick b 112 _ _ (written_change 112 Forward (λ s x. refl))
+      (pick b 112 _ _ (written_two reads stamp one 112 (of_change Forward) Forward refl (λ f g. refl) (λ s x. refl))
       (pick b 99 _ _ (written_session 99 Commit (λ s. refl))
       (pick b 97 _ _ (written_session 97 Abort (λ s. refl))
       (pick b 108 _ _ (written_session 108 Learn (λ s. refl))
       (pick b 107 _ _ (written_numbers 107 Receipt (λ s n. refl))
-      (pick b 116 _ _ (written_stamp 116 Truncate (λ x. refl)) (written_none b)))))))))))
+      (pick b 116 _ _ (written_one reads stamp one 116 (of_stamp Truncate) Truncate refl (λ f. refl) (λ x. refl)) (written_none b)))))))))))
 
   written_first : (f : List ℕ) (fs : List (ℕ × List ℕ)) (c : Call S) → read_form reads end (form_of f) fs ≡ Ok c → spaced (f ∷ texts fs) ≡ call_text stamp c
   written_first [] fs c e = absurd (grind arith)

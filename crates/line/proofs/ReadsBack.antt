@@ -21,7 +21,7 @@ use Rattle.protocol.specs.declared.Call.{Call}
 use Rattle.protocol.specs.declared.Call.TheVariants.{Begin, Fetch, Read, Write, Drop, Forward, Commit, Abort, Learn, Receipt, Truncate}
 use Rattle.protocol.specs.Texts.{call_text, Fits}
 use Rattle.line.specs.Cutting.{placed}
-use Rattle.line.specs.Reading.{of_session, of_numbers, of_rule, of_change, of_stamp, form, numeral, refuse_or, read_form, read_fields, call_of}
+use Rattle.line.specs.Reading.{Form, of_session, of_numbers, of_rule, of_change, of_stamp, form, numeral, refuse_or, read_form, read_fields, call_of}
 
 number_back : (n : ℕ) → n < 2 ^ 32 → numeral (decimal n) ≡ Some n
 number_back n h = number_decimal 4294967295 n (omega arith) (omega arith)
@@ -73,38 +73,29 @@ module _ {S : Type 0} (reads : List ℕ → Option S) (stamp : S → List ℕ) (
       ∙ ap (λ l. read_fields reads (length bs) (placed 0 l)) e ∙ r (length bs)
 
   -- a letter and one field
+  one_back : {X : Type 0} (read : List ℕ → Option X) (b : ℕ) (φ : Form S) (call : X → Call S) (x : X) (f : List ℕ) → read f ≡ Some x → length f ≤ 40 → Lacks 32 f → Lacks 32 (b ∷ []) → form b ≡ Some φ → ((end : ℕ) → read_form reads end (Some φ) ((2, f) ∷ []) ≡ refuse_or (cond (is_some (read f)) None (Some 2)) (option_map call (read f)) 0) → call_of reads (b ∷ 32 ∷ f) ≡ Ok (call x)
+  one_back read b φ call x f y h q p e r =
+      let small : length (b ∷ 32 ∷ f) ≤ 80 = omega (arith, h) in
+      cut_line (b ∷ 32 ∷ f) _ _ small (fields_two (b ∷ []) f p q)
+      (λ end. ap (λ φ. read_form reads end φ ((2, f) ∷ [])) e ∙ r end ∙ ap (λ o. refuse_or (cond (is_some o) None (Some 2)) (option_map call o) 0) y)
+
   session_back : (b : ℕ) (call : ℕ → Call S) (s : ℕ) → s < 2 ^ 32 → Lacks 32 (b ∷ []) → form b ≡ Some (of_session call) → call_of reads (b ∷ 32 ∷ decimal s) ≡ Ok (call s)
   session_back b call s h p e =
-      let small : length (b ∷ 32 ∷ decimal s) ≤ 80 = omega (arith, short_number s h) in
-      cut_line (b ∷ 32 ∷ decimal s) _ _ small (fields_two (b ∷ []) (decimal s) p (no_space_number s h))
-      (λ end. ap (λ φ. read_form reads end φ ((2, decimal s) ∷ [])) e
-      ∙ ap (λ o. refuse_or (cond (is_some o) None (Some 2)) (option_map call o) 0) (number_back s h))
+      one_back numeral b (of_session call) call s (decimal s) (number_back s h) (omega (arith, short_number s h)) (no_space_number s h) p e (λ end. refl)
 
-  stamp_back : (b : ℕ) (call : S → Call S) (x : S) → Lacks 32 (b ∷ []) → form b ≡ Some (of_stamp call) → call_of reads (b ∷ 32 ∷ stamp x) ≡ Ok (call x)
-  stamp_back b call x p e =
-      let small : length (b ∷ 32 ∷ stamp x) ≤ 80 = omega (arith, short x) in
-      cut_line (b ∷ 32 ∷ stamp x) _ _ small (fields_two (b ∷ []) (stamp x) p (no_space x))
-      (λ end. ap (λ φ. read_form reads end φ ((2, stamp x) ∷ [])) e
-      ∙ ap (λ o. refuse_or (cond (is_some o) None (Some 2)) (option_map call o) 0) (back x))
+  -- a letter, a number and one field more
+  two_back : {X : Type 0} (read : List ℕ → Option X) (b : ℕ) (φ : Form S) (call : ℕ → X → Call S) (s : ℕ) (x : X) (g : List ℕ) → s < 2 ^ 32 → read g ≡ Some x → length g ≤ 40 → Lacks 32 g → Lacks 32 (b ∷ []) → form b ≡ Some φ → ((end at : ℕ) (f : List ℕ) → read_form reads end (Some φ) ((2, f) ∷ (at, g) ∷ []) ≡ refuse_or (cond (is_some (numeral f)) (cond (is_some (read g)) None (Some at)) (Some 2)) (and_then (numeral f) (λ s. option_map (call s) (read g))) 0) → call_of reads (b ∷ 32 ∷ decimal s ++ 32 ∷ g) ≡ Ok (call s x)
+  two_back read b φ call s x g h y k q p e r =
+      let z = number_back s h in
+      let small : length (b ∷ 32 ∷ decimal s ++ 32 ∷ g) ≤ 80 = omega (arith, short_between (decimal s) g 32 10 40 (short_number s h) k) in
+      let at = 2 + length (decimal s) + 1 in
+      cut_line (b ∷ 32 ∷ decimal s ++ 32 ∷ g) _ _ small (fields_three (b ∷ []) (decimal s) g p (no_space_number s h) q)
+      (λ end. ap (λ φ. read_form reads end φ ((2, decimal s) ∷ (at, g) ∷ [])) e ∙ r end at (decimal s)
+      ∙ (λ i. refuse_or (cond (is_some (z i)) (cond (is_some (y i)) None (Some at)) (Some 2)) (and_then (z i) (λ s. option_map (call s) (y i))) 0))
 
-  -- a letter and two fields
   numbers_back : (b : ℕ) (call : ℕ → ℕ → Call S) (s n : ℕ) → s < 2 ^ 32 → n < 2 ^ 32 → Lacks 32 (b ∷ []) → form b ≡ Some (of_numbers call) → call_of reads (b ∷ 32 ∷ decimal s ++ 32 ∷ decimal n) ≡ Ok (call s n)
   numbers_back b call s n h k p e =
-      let x = number_back s h in
-      let y = number_back n k in
-      let small : length (b ∷ 32 ∷ decimal s ++ 32 ∷ decimal n) ≤ 80 = omega (arith, short_between (decimal s) (decimal n) 32 10 10 (short_number s h) (short_number n k)) in
-      cut_line (b ∷ 32 ∷ decimal s ++ 32 ∷ decimal n) _ _ small (fields_three (b ∷ []) (decimal s) (decimal n) p (no_space_number s h) (no_space_number n k))
-      (λ end. ap (λ φ. read_form reads end φ ((2, decimal s) ∷ (2 + length (decimal s) + 1, decimal n) ∷ [])) e
-      ∙ (λ i. refuse_or (cond (is_some (x i)) (cond (is_some (y i)) None (Some (2 + length (decimal s) + 1))) (Some 2)) (and_then (x i) (λ s. option_map (call s) (y i))) 0))
-
-  change_back : (b : ℕ) (call : ℕ → S → Call S) (s : ℕ) (t : S) → s < 2 ^ 32 → Lacks 32 (b ∷ []) → form b ≡ Some (of_change call) → call_of reads (b ∷ 32 ∷ decimal s ++ 32 ∷ stamp t) ≡ Ok (call s t)
-  change_back b call s t h p e =
-      let x = number_back s h in
-      let y = back t in
-      let small : length (b ∷ 32 ∷ decimal s ++ 32 ∷ stamp t) ≤ 80 = omega (arith, short_between (decimal s) (stamp t) 32 10 40 (short_number s h) (short t)) in
-      cut_line (b ∷ 32 ∷ decimal s ++ 32 ∷ stamp t) _ _ small (fields_three (b ∷ []) (decimal s) (stamp t) p (no_space_number s h) (no_space t))
-      (λ end. ap (λ φ. read_form reads end φ ((2, decimal s) ∷ (2 + length (decimal s) + 1, stamp t) ∷ [])) e
-      ∙ (λ i. refuse_or (cond (is_some (x i)) (cond (is_some (y i)) None (Some (2 + length (decimal s) + 1))) (Some 2)) (and_then (x i) (λ s. option_map (call s) (y i))) 0))
+      two_back numeral b (of_numbers call) call s n (decimal n) h (number_back n k) (omega (arith, short_number n k)) (no_space_number n k) p e (λ end at f. refl)
 
   -- the six fields of a write
   read_six : (end at bt ct dt et : ℕ) (f g h i j : List ℕ) (s n : ℕ) (r : Rule) → numeral f ≡ Some s → numeral g ≡ Some n → network_of h ≡ Some (r.address, r.prefix) → action_of i ≡ Some r.action → ports_of j ≡ Some (r.first, r.last) → make (parts_of r) ≡ Some r → read_form reads end (Some (of_rule Write)) ((at, f) ∷ (bt, g) ∷ (ct, h) ∷ (dt, i) ∷ (et, j) ∷ []) ≡ Ok (Write s n r)
@@ -139,9 +130,11 @@ module _ {S : Type 0} (reads : List ℕ → Option S) (stamp : S → List ℕ) (
   reads_back (Read s n) h = numbers_back 114 Read s n h.0 h.1 (λ d. omega arith, tt) refl
   reads_back (Write s n r) h = write_back s n r h.0 h.1
   reads_back (Drop s n) h = numbers_back 100 Drop s n h.0 h.1 (λ d. omega arith, tt) refl
-  reads_back (Forward s x) h = change_back 112 Forward s x h (λ d. omega arith, tt) refl
+  reads_back (Forward s x) h =
+      two_back reads 112 (of_change Forward) Forward s x (stamp x) h (back x) (short x) (no_space x) (λ d. omega arith, tt) refl (λ end at f. refl)
   reads_back (Commit s) h = session_back 99 Commit s h (λ d. omega arith, tt) refl
   reads_back (Abort s) h = session_back 97 Abort s h (λ d. omega arith, tt) refl
   reads_back (Learn s) h = session_back 108 Learn s h (λ d. omega arith, tt) refl
   reads_back (Receipt s n) h = numbers_back 107 Receipt s n h.0 h.1 (λ d. omega arith, tt) refl
-  reads_back (Truncate x) h = stamp_back 116 Truncate x (λ d. omega arith, tt) refl
+  reads_back (Truncate x) h =
+      one_back reads 116 (of_stamp Truncate) Truncate x (stamp x) (back x) (short x) (no_space x) (λ d. omega arith, tt) refl (λ end. refl)

@@ -1,8 +1,10 @@
 // How a line is cut: at every space, before any field is read.
-ghost use Rattle.std.specs.Prelude.{◌≡◌, ◌+◌, ◌≤◌, ◌∷◌, length, nat_lt};
-ghost use Rattle.std.specs.Option.{option_map};
-ghost use Rattle.line.specs.Cutting.{told, fields_in, fields_behind, ShortBehind, parts, is_too_long, cut_of, first_of, rest_of};
+ghost use Rattle.std.specs.Prelude.{◌≡◌, ◌+◌, ◌≤◌, [], ◌∷◌, length, Ok, Err, MatchOption, MatchResult};
+ghost use Rattle.std.specs.Iterator.{at_most};
+ghost use Rattle.std.specs.Option.{ForSome};
+ghost use Rattle.line.specs.Cutting.{told, fields_behind, parts, cut_of};
 
+use refusal::Refusal;
 use text::split_once;
 
 // A line has at most as many bytes.
@@ -16,6 +18,7 @@ pub struct Field<'a> {
 }
 
 // The fields of a line. No call has more than six.
+// A rule of the project: a case for each number of fields, and each field a part of the line itself, so that no memory is taken.
 #[derive(Clone, Copy)]
 pub enum Line<'a> {
     // no field is left
@@ -28,96 +31,89 @@ pub enum Line<'a> {
     Six(Field<'a>, Field<'a>, Field<'a>, Field<'a>, Field<'a>, Field<'a>),
     // six fields, and the first one too many
     More(Field<'a>, Field<'a>, Field<'a>, Field<'a>, Field<'a>, Field<'a>, Field<'a>),
-    // more bytes than a line has: not cut
-    TooLong,
 }
 
-// The first field of a part, and what stands behind the space that ends it.
-fn first_field<'a>(part: Field<'a>) -> (Field<'a>, Option<Field<'a>>)
-    requires { part.at + length part.bytes.now ≤ 80 }
-    ensures cut { fields_in (told part.entry) ≡ told result.0 ∷ fields_behind result.1 }
-    ensures short { ShortBehind result.1 }
-{
-    match split_once(part.bytes, b' ') {
-        Some((bytes, rest)) => {
-            let field = Field { bytes, at: part.at };
-            let next = part.at + bytes.len() as u32 + 1;
-            (
-                field,
-                Some(Field {
-                    bytes: rest,
-                    at: next,
-                }),
-            )
+// What is still to be cut of a line.
+#[derive(Drop)]
+struct Cutter<'a> {
+    left: Option<Field<'a>>,
+    ghost short: { ForSome left (λ part. part.at + length part.bytes.now ≤ 80) },
+}
+
+impl<'a> Iterator for Cutter<'a> {
+    type Item = Field<'a>;
+
+    ghost next_gives = { λ s r t. MatchOption r ((fields_behind s.left ≡ []) × (fields_behind t.left ≡ [])) (λ f. fields_behind s.left ≡ told f ∷ fields_behind t.left) };
+
+    ghost remaining = { λ s. at_most (length (fields_behind s.left)) };
+
+    // What stands before the next space, or else all that is left.
+    #[tactic(auto, using(crate::proofs::Cuts::lengths_split))]
+    fn next(&mut self) -> Option<Field<'a>> {
+        let part = self.left?;
+        match split_once(part.bytes, b' ') {
+            Some((bytes, behind)) => {
+                let at = part.at + bytes.len() as u32 + 1;
+                self.left = Some(Field { bytes: behind, at });
+                Some(Field { bytes, at: part.at })
+            }
+            None => {
+                self.left = None;
+                Some(part)
+            }
         }
-        None => (part, None),
     }
 }
 
-// The fields of a line, if it is not too long.
-pub fn cut(line: &[u8]) -> Line<'_>
-    ensures long { is_too_long result ≡ nat_lt 80 (length line.now) }
-    ensures fields { parts result ≡ cut_of line.now }
+// The fields of a line. One that is too long is refused at its first byte too many.
+pub fn cut(line: &[u8]) -> Result<Line<'_>, Refusal>
+    ensures { MatchResult result (λ fields. cut_of line.now ≡ Ok (parts fields)) (λ refusal. cut_of line.now ≡ Err refusal) }
 {
     if line.len() > LONGEST {
-        return Line::TooLong;
+        return Err(Refusal::Unreadable { at: LONGEST as u32 });
     }
-    let (a, rest) = first_field(Field { bytes: line, at: 0 });
-    let Some(rest) = rest else {
-        return Line::One(a);
+    let mut fields = Cutter {
+        left: Some(Field { bytes: line, at: 0 }),
     };
-    let (b, rest) = first_field(rest);
-    let Some(rest) = rest else {
-        return Line::Two(a, b);
+    let Some(a) = fields.next() else {
+        return Ok(Line::Empty);
     };
-    let (c, rest) = first_field(rest);
-    let Some(rest) = rest else {
-        return Line::Three(a, b, c);
+    let Some(b) = fields.next() else {
+        return Ok(Line::One(a));
     };
-    let (d, rest) = first_field(rest);
-    let Some(rest) = rest else {
-        return Line::Four(a, b, c, d);
+    let Some(c) = fields.next() else {
+        return Ok(Line::Two(a, b));
     };
-    let (e, rest) = first_field(rest);
-    let Some(rest) = rest else {
-        return Line::Five(a, b, c, d, e);
+    let Some(d) = fields.next() else {
+        return Ok(Line::Three(a, b, c));
     };
-    let (f, rest) = first_field(rest);
-    let Some(rest) = rest else {
-        return Line::Six(a, b, c, d, e, f);
+    let Some(e) = fields.next() else {
+        return Ok(Line::Four(a, b, c, d));
     };
-    let (g, _) = first_field(rest);
-    Line::More(a, b, c, d, e, f, g)
+    let Some(f) = fields.next() else {
+        return Ok(Line::Five(a, b, c, d, e));
+    };
+    let Some(g) = fields.next() else {
+        return Ok(Line::Six(a, b, c, d, e, f));
+    };
+    Ok(Line::More(a, b, c, d, e, f, g))
 }
 
 impl<'a> Line<'a> {
-    pub(crate) fn first(self) -> Option<Field<'a>>
-        ensures { option_map told result ≡ first_of (parts self.entry) }
+    // The first field, and the line without it.
+    #[inline(always)]
+    pub(crate) fn split_first(self) -> Option<(Field<'a>, Line<'a>)>
+        ensures { MatchOption result (parts self.entry ≡ []) (λ r. parts self.entry ≡ told r.0 ∷ parts r.1) }
     {
         match self {
-            Line::Empty | Line::TooLong => None,
-            Line::One(a) => Some(a),
-            Line::Two(a, _) => Some(a),
-            Line::Three(a, _, _) => Some(a),
-            Line::Four(a, _, _, _) => Some(a),
-            Line::Five(a, _, _, _, _) => Some(a),
-            Line::Six(a, _, _, _, _, _) => Some(a),
-            Line::More(a, _, _, _, _, _, _) => Some(a),
-        }
-    }
-
-    // The line without its first field.
-    pub(crate) fn rest(self) -> Line<'a>
-        ensures { parts result ≡ rest_of (parts self.entry) }
-    {
-        match self {
-            Line::Empty | Line::One(_) | Line::TooLong => Line::Empty,
-            Line::Two(_, b) => Line::One(b),
-            Line::Three(_, b, c) => Line::Two(b, c),
-            Line::Four(_, b, c, d) => Line::Three(b, c, d),
-            Line::Five(_, b, c, d, e) => Line::Four(b, c, d, e),
-            Line::Six(_, b, c, d, e, f) => Line::Five(b, c, d, e, f),
-            Line::More(_, b, c, d, e, f, g) => Line::Six(b, c, d, e, f, g),
+            Line::Empty => None,
+            Line::One(a) => Some((a, Line::Empty)),
+            Line::Two(a, b) => Some((a, Line::One(b))),
+            Line::Three(a, b, c) => Some((a, Line::Two(b, c))),
+            Line::Four(a, b, c, d) => Some((a, Line::Three(b, c, d))),
+            Line::Five(a, b, c, d, e) => Some((a, Line::Four(b, c, d, e))),
+            Line::Six(a, b, c, d, e, f) => Some((a, Line::Five(b, c, d, e, f))),
+            Line::More(a, b, c, d, e, f, g) => Some((a, Line::Six(b, c, d, e, f, g))),
         }
     }
 }

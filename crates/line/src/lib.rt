@@ -5,6 +5,7 @@
 #![tactic(auto)]
 
 mod cutting;
+mod fields;
 mod reading;
 mod texts;
 

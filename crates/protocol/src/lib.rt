@@ -1,6 +1,6 @@
 // The eleven calls of the book and its answers, as values.
 //
-// A call names its session, and what it asks of it; only a truncation has no session. An answer is a value, or the refusal.
+// A call names its session, and what it asks of it; only a truncation has no session. An answer is what the call gives, or the refusal.
 #![tactic(auto)]
 
 mod texts;
@@ -9,7 +9,7 @@ use refusal::Refusal;
 use rule::Rule;
 use slots::SlotSet;
 
-#[derive(Clone, Copy)]
+#[derive(Clone, Copy, Debug, PartialEq, Eq)]
 pub enum Call<S> {
     // starts a change
     Begin { session: u32 },
@@ -33,9 +33,21 @@ pub enum Call<S> {
     Truncate { stamp: S },
 }
 
-#[derive(Clone, Copy)]
-pub enum Answer {
-    // done, with no value
+// What a session learns.
+#[derive(Clone, Copy, PartialEq, Eq)]
+pub struct Learnt {
+    // the number learnt
+    pub number: u32,
+    // the slots with notices
+    pub slots: SlotSet,
+    // whether a change ended
+    pub ended: bool,
+}
+
+// What a call that is done gives.
+#[derive(Clone, Copy, PartialEq, Eq)]
+pub enum Reply {
+    // no value
     Done,
     // the rule of a slot
     Got(Rule),
@@ -43,13 +55,10 @@ pub enum Answer {
     Queued(u32),
     // the notice number
     Numbered(u32),
-    // the number learnt, the slots with notices, and whether a change ended
-    Learnt {
-        number: u32,
-        slots: SlotSet,
-        ended: bool,
-    },
+    Learnt(Learnt),
     // how many entries left the queue
     Removed(u32),
-    Refused(Refusal),
 }
+
+// What a call is answered.
+pub type Answer = Result<Reply, Refusal>;

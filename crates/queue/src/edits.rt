@@ -1,5 +1,5 @@
 // How the queue is made and changed.
-ghost use Rattle.std.specs.Prelude.{◌≡◌, ◌-◌, not, List, [], map, length, IfOk, filter};
+ghost use Rattle.std.specs.Prelude.{◌≡◌, ◌-◌, not, [], map, length, IfOk, filter};
 ghost use Rattle.calls.specs.Effects.{own_pending, finished, stays};
 ghost use Rattle.queue.specs.Entries.{key_view, change_view};
 ghost use Rattle.queue.specs.Views.{queue_view, joined};
@@ -12,8 +12,9 @@ impl Queue {
     pub fn new(heap: Global) -> Result<Queue, AllocError>
         ensures { IfOk result (λ q. queue_view q ≡ []) }
     {
-        let changes = Vec::with_capacity(heap, ROOM)?;
-        Ok(Queue { changes })
+        Ok(Queue {
+            changes: Vec::with_capacity(heap, ROOM)?,
+        })
     }
 
     // Joins a change at the end, if there is room.
@@ -29,9 +30,9 @@ impl Queue {
     pub fn finish(&mut self, session: u32)
         ensures { queue_view self.new ≡ map (finished session) (queue_view self.old) }
     {
-        for i in 0..self.changes.len() {
-            let change = self.changes[i].finished(session);
-            self.changes[i] = change;
+        // of what a loop over `&mut self.changes` writes, a proof knows nothing
+        for change in self.changes.iter_mut() {
+            *change = change.finished(session);
         }
     }
 
@@ -39,15 +40,7 @@ impl Queue {
     pub fn strike(&mut self, session: u32)
         ensures { queue_view self.new ≡ filter (λ q. not (own_pending session q)) (queue_view self.old) }
     {
-        let mut next = 0;
-        for i in 0..self.changes.len() {
-            let change = self.changes[i];
-            if !change.is_own(session) {
-                self.changes[next] = change;
-                next += 1;
-            }
-        }
-        self.changes.truncate(next);
+        self.changes.retain(|change| !change.is_own(session));
     }
 
     // Committed changes up to a key are taken out: how many.
@@ -56,15 +49,7 @@ impl Queue {
         ensures removed { result ≡ length (queue_view self.old) - length (queue_view self.new) }
     {
         let before = self.changes.len();
-        let mut next = 0;
-        for i in 0..before {
-            let change = self.changes[i];
-            if change.stays(key) {
-                self.changes[next] = change;
-                next += 1;
-            }
-        }
-        self.changes.truncate(next);
-        (before - next) as u32
+        self.changes.retain(|change| change.stays(key));
+        (before - self.changes.len()) as u32
     }
 }

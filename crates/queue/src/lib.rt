@@ -15,6 +15,7 @@ pub use entry::{Change, Stage};
 // As many changes fit.
 pub const ROOM: usize = 32;
 
+// No `impl Model`: the entries of the definitions hold functions of the slot, and the value of a model has to be data.
 #[derive(Drop)]
 pub struct Queue {
     changes: Vec<Change>,

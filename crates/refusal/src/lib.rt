@@ -10,9 +10,9 @@ ghost use Rattle.std.specs.Prelude.{◌≡◌};
 ghost use Rattle.refusal.specs.Table.{fault_number, layer_number, told};
 
 // The part of the product that turns a call away, lowest first.
-#[derive(Clone, Copy)]
+#[derive(Clone, Copy, Debug, PartialEq, Eq)]
 pub enum Layer {
-    Block,
+    Block = 1,
     Store,
     Book,
     Line,
@@ -22,20 +22,15 @@ impl Layer {
     pub fn number(self) -> u8
         ensures { result ≡ layer_number self }
     {
-        match self {
-            Layer::Block => 1,
-            Layer::Store => 2,
-            Layer::Book => 3,
-            Layer::Line => 4,
-        }
+        self as u8
     }
 }
 
 // What is wrong with the memory in which a slot lies.
-#[derive(Clone, Copy, Debug)]
+#[derive(Clone, Copy, Debug, PartialEq, Eq)]
 pub enum Fault {
     // the check that a block carries is not the check of its other bytes
-    Check,
+    Check = 17,
     // the head of a block is not as laid out
     Head,
     // a record or a table row is no rule, or a byte behind the head is not zero where zero is laid out
@@ -46,23 +41,19 @@ impl Fault {
     pub fn number(self) -> u8
         ensures { result ≡ fault_number self }
     {
-        match self {
-            Fault::Check => 17,
-            Fault::Head => 18,
-            Fault::Record => 19,
-        }
+        self as u8
     }
 }
 
 // A fault with the number of its block; the rows of a table count as block 0.
-#[derive(Clone, Copy, Debug)]
+#[derive(Clone, Copy, Debug, PartialEq, Eq)]
 pub struct Damage {
     pub fault: Fault,
     pub block: u32,
 }
 
 // The causes, in the order of their numbers.
-#[derive(Clone, Copy, Debug)]
+#[derive(Clone, Copy, Debug, PartialEq, Eq)]
 pub enum Refusal {
     WrongSize,
     NoSuchSession { session: u32 },
@@ -87,14 +78,14 @@ pub enum Refusal {
 }
 
 impl Refusal {
+    // By a method and not by `From`, as with a layer and a fault: a refusal is told by three numbers, and none of them is the refusal.
     pub fn number(self) -> u8
         ensures { result ≡ (told self).number }
     {
         match self {
             Refusal::WrongSize => 1,
             Refusal::NoSuchSession { .. } => 2,
-            Refusal::SlotOutsideStore { .. } => 3,
-            Refusal::SlotOutsideBook { .. } => 3,
+            Refusal::SlotOutsideStore { .. } | Refusal::SlotOutsideBook { .. } => 3,
             Refusal::WrongPhase { .. } => 4,
             Refusal::AlreadyHeld { .. } => 5,
             Refusal::NotHeld { .. } => 6,
@@ -130,23 +121,22 @@ impl Refusal {
     {
         match self {
             Refusal::WrongSize | Refusal::StampTooEarly | Refusal::NumbersExhausted => 0,
-            Refusal::NoSuchSession { session } => session,
-            Refusal::SlotOutsideStore { slot } => slot,
-            Refusal::SlotOutsideBook { slot } => slot,
-            Refusal::WrongPhase { session } => session,
-            Refusal::AlreadyHeld { slot } => slot,
-            Refusal::NotHeld { slot } => slot,
-            Refusal::NotRead { slot } => slot,
-            Refusal::ReadByChange { slot } => slot,
-            Refusal::StampTaken { entry } => entry,
+            Refusal::NoSuchSession { session }
+            | Refusal::WrongPhase { session }
+            | Refusal::ReceiptTooHigh { session } => session,
+            Refusal::SlotOutsideStore { slot }
+            | Refusal::SlotOutsideBook { slot }
+            | Refusal::AlreadyHeld { slot }
+            | Refusal::NotHeld { slot }
+            | Refusal::NotRead { slot }
+            | Refusal::ReadByChange { slot }
+            | Refusal::Stale { slot } => slot,
+            Refusal::StampTaken { entry }
+            | Refusal::LaterConflict { entry }
+            | Refusal::PendingConflict { entry } => entry,
             Refusal::QueueFull => 32,
-            Refusal::LaterConflict { entry } => entry,
-            Refusal::PendingConflict { entry } => entry,
-            Refusal::Stale { slot } => slot,
-            Refusal::ReceiptTooHigh { session } => session,
             Refusal::Damaged(damage) => damage.block,
-            Refusal::NoRule { at } => at,
-            Refusal::Unreadable { at } => at,
+            Refusal::NoRule { at } | Refusal::Unreadable { at } => at,
         }
     }
 }

@@ -2,13 +2,12 @@
 use Rattle.std.proofs.Common.{◌≡◌, ℕ, ◌+◌, ◌*◌, ◌/◌, ◌%◌, ◌^◌, ◌<◌, ◌≤◌, List, ◌∷◌, ◌++◌, Some, decimal, sym, ap, ◌∙◌, subst, arith}
 use native.Mathlib.Nat.{div-div-eq-div-mul, div-add-mod}
 use Rattle.std.specs.Int.{IsInRange}
-use Rattle.std.proofs.ByRecursion.{All-append}
 use Rattle.text.specs.Cutting.{split}
 use Rattle.text.specs.Octets.{octet_of}
 use Rattle.text.proofs.Cuts.{Lacks, split_at, split_cuts}
-use Rattle.text.proofs.Decimal.{number_decimal, decimal_number, lacks_decimal}
+use Rattle.text.proofs.Decimal.{number_decimal, decimal_number, lacks_decimal, lacks_between}
 use Rattle.text.proofs.Grammar.{octet_number}
-use Rattle.text.proofs.Options.{then_parts, mapped_parts}
+use Rattle.text.proofs.Options.{then_parts, option_map_some}
 use Rattle.rule.specs.Text.{address_text}
 use Rattle.rule.specs.Reading.{dotted, address_of}
 
@@ -50,7 +49,7 @@ decimal_dotted : (bs : List ℕ) (p : ℕ × List ℕ) → dotted bs ≡ Some p 
 decimal_dotted bs p e =
     let s = then_parts (split 46 bs) _ p e in
     let cut = split_cuts 46 bs s.0.0 s.0.1 s.1 in
-    let o = mapped_parts _ (octet_of s.0.0) p s.2 in
+    let o = option_map_some _ (octet_of s.0.0) p s.2 in
     let d = decimal_octet s.0.0 o.0 o.1 in
     subst (λ (q : ℕ × List ℕ). (bs ≡ decimal q.0 ++ 46 ∷ q.1) × (q.0 ≤ 255)) o.2 (cut.whole ∙ ap (λ l. l ++ 46 ∷ s.0.1) d.0, d.1)
 
@@ -72,16 +71,12 @@ text_of_address bs n e =
     let a = then_parts (dotted bs) _ n e in
     let b = then_parts (dotted a.0.1) _ n a.2 in
     let c = then_parts (dotted b.0.1) _ n b.2 in
-    let d = mapped_parts _ (octet_of c.0.1) n c.2 in
+    let d = option_map_some _ (octet_of c.0.1) n c.2 in
     let x = decimal_dotted bs a.0 a.1 in
     let y = decimal_dotted a.0.1 b.0 b.1 in
     let z = decimal_dotted b.0.1 c.0 c.1 in
     let w = decimal_octet c.0.1 d.0 d.1 in
     text_by _ _ _ _ n _ _ _ _ x.0 y.0 z.0 w.0 (subst (λ m. Octets m a.0.0 b.0.0 c.0.0 d.0) d.2 (octets_joined _ _ _ _ x.1 y.1 z.1 w.1))
-
--- a byte that is no digit and not the sign behind a number
-pub lacks_between : (c s n : ℕ) (rest : List ℕ) → n < 2 ^ 64 → (IsInRange 48 57 c → ⊥) → (s ≡ c → ⊥) → Lacks c rest → Lacks c (decimal n ++ s ∷ rest)
-lacks_between c s n rest h digit sign more = All-append (λ b. b ≡ c → ⊥) (decimal n) (s ∷ rest) (lacks_decimal c n h digit) (sign, more)
 
 -- no byte but digits and dots stands in an address
 pub lacks_address : (c n : ℕ) → (IsInRange 48 57 c → ⊥) → (46 ≡ c → ⊥) → Lacks c (address_text n)

@@ -1,17 +1,16 @@
 -- The text of each field reads as what it was written from, no other text does, and it holds no space. Assumes nothing.
-use Rattle.std.proofs.Common.{◌≡◌, ℕ, ◌^◌, ◌<◌, ◌≤◌, Bool, true, false, cond, List, ◌∷◌, ◌++◌, Some, None, codes, decimal, refl, ap, ◌∙◌, subst, arith}
-use Rattle.std.proofs.ByRecursion.{All-append}
+use Rattle.std.proofs.Common.{◌≡◌, ℕ, ◌^◌, ◌<◌, ◌≤◌, Bool, true, cond, List, ◌∷◌, ◌++◌, Some, None, codes, decimal, refl, ◌∙◌, subst, arith}
 use Rattle.std.proofs.lemmas.Slice.Eq.{bytes_eq-Decides}
 use Rattle.text.specs.Cutting.{split}
 use Rattle.text.specs.Numbers.{number_of}
-use Rattle.text.proofs.Cuts.{Lacks, split_at, split_cuts}
-use Rattle.text.proofs.Decimal.{number_decimal, decimal_number, lacks_decimal}
-use Rattle.text.proofs.Options.{then_parts, mapped_parts}
+use Rattle.text.proofs.Cuts.{Lacks, lacks_append, split_at, split_cuts}
+use Rattle.text.proofs.Decimal.{number_decimal, decimal_number, lacks_decimal, lacks_between}
+use Rattle.text.proofs.Options.{then_parts, option_map_some}
 use Rattle.rule.specs.declared.Action.{Action}
 use Rattle.rule.specs.declared.Action.TheVariants.{Allow, Block}
 use Rattle.rule.specs.Text.{address_text, network_text, action_text, ports_text}
 use Rattle.rule.specs.Reading.{address_of, network_of, action_of, ports_of}
-use Rattle.rule.proofs.Addresses.{address_of_text, text_of_address, lacks_between, lacks_address}
+use Rattle.rule.proofs.Addresses.{address_of_text, text_of_address, lacks_address}
 
 pub network_of_text : (a p : ℕ) → a < 2 ^ 32 → p ≤ 255 → network_of (network_text a p) ≡ Some (a, p)
 network_of_text a p ha hp =
@@ -22,7 +21,7 @@ text_of_network bs n e =
     let s = then_parts (split 47 bs) _ n e in
     let cut = split_cuts 47 bs s.0.0 s.0.1 s.1 in
     let a = then_parts (address_of s.0.0) _ n s.2 in
-    let p = mapped_parts _ (number_of 255 s.0.1) n a.2 in
+    let p = option_map_some _ (number_of 255 s.0.1) n a.2 in
     let x = text_of_address s.0.0 a.0 a.1 in
     let y = (decimal_number 255 p.0 s.0.1 (omega arith) p.1).0 in
     subst (λ (q : ℕ × ℕ). bs ≡ network_text q.0 q.1) p.2 (cut.whole ∙ (λ i. x i ++ 47 ∷ y i))
@@ -32,9 +31,7 @@ action_of_text Allow = refl
 action_of_text Block = refl
 
 action_by : (bs : List ℕ) (t u : Bool) (a : Action) → (t ≡ true → bs ≡ codes "allow") → (u ≡ true → bs ≡ codes "block") → cond t (Some Allow) (cond u (Some Block) None) ≡ Some a → bs ≡ action_text a
-action_by bs true u a x y e = let same : Allow ≡ a = cc in x refl ∙ ap action_text same
-action_by bs false true a x y e = let same : Block ≡ a = cc in y refl ∙ ap action_text same
-action_by bs false false a x y e = absurd (grind arith)
+action_by bs t u a x y e = grind arith
 
 pub text_of_action : (bs : List ℕ) (a : Action) → action_of bs ≡ Some a → bs ≡ action_text a
 text_of_action bs a e = action_by bs _ _ a (bytes_eq-Decides bs (codes "allow")).0 (bytes_eq-Decides bs (codes "block")).0 e
@@ -48,7 +45,7 @@ text_of_ports bs n e =
     let s = then_parts (split 45 bs) _ n e in
     let cut = split_cuts 45 bs s.0.0 s.0.1 s.1 in
     let a = then_parts (number_of 65535 s.0.0) _ n s.2 in
-    let p = mapped_parts _ (number_of 65535 s.0.1) n a.2 in
+    let p = option_map_some _ (number_of 65535 s.0.1) n a.2 in
     let x = (decimal_number 65535 a.0 s.0.0 (omega arith) a.1).0 in
     let y = (decimal_number 65535 p.0 s.0.1 (omega arith) p.1).0 in
     subst (λ (q : ℕ × ℕ). bs ≡ ports_text q.0 q.1) p.2 (cut.whole ∙ (λ i. x i ++ 45 ∷ y i))
@@ -57,7 +54,7 @@ text_of_ports bs n e =
 
 pub no_space_network : (a p : ℕ) → p ≤ 255 → Lacks 32 (network_text a p)
 no_space_network a p h =
-    All-append (λ b. b ≡ 32 → ⊥) (address_text a) (47 ∷ decimal p) (lacks_address 32 a (λ d. omega arith) (λ d. omega arith)) (λ d. omega arith, lacks_decimal 32 p (omega arith) (λ d. omega arith))
+    lacks_append 32 (address_text a) (47 ∷ decimal p) (lacks_address 32 a (λ d. omega arith) (λ d. omega arith)) (λ d. omega arith, lacks_decimal 32 p (omega arith) (λ d. omega arith))
 
 pub no_space_action : (a : Action) → Lacks 32 (action_text a)
 no_space_action Allow = (λ e. omega arith, (λ e. omega arith, (λ e. omega arith, (λ e. omega arith, (λ e. omega arith, tt)))))

@@ -1,14 +1,15 @@
 -- The text of a rule reads as that rule, and no other text does. Assumes nothing.
 use Rattle.std.proofs.Common.{◌≡◌, ℕ, ◌≤◌, List, [], ◌∷◌, ◌++◌, length, Some, None, Ok, Err, Option, Result, sym, refl, ap, ◌∙◌, subst, arith}
 use Rattle.std.specs.Option.{ok_or}
-use Rattle.text.proofs.Options.{then_parts, mapped_parts}
+use Rattle.text.proofs.Options.{then_parts, option_map_some}
+use Rattle.refusal.specs.declared.Refusal.{Refusal}
 use Rattle.refusal.specs.declared.Refusal.TheVariants.{NoRule}
 use Rattle.rule.specs.declared.Action.{Action}
 use Rattle.rule.specs.declared.Parts.{Parts}
 use Rattle.rule.specs.declared.Rule.{Rule}
 use Rattle.rule.specs.Making.{action_number, numbered, parts_of, make}
 use Rattle.rule.specs.Text.{network_text, action_text, ports_text, text}
-use Rattle.rule.specs.Reading.{network_of, action_of, ports_of, fields, first_wrong, parts_in, parts_or_place, read_parts, rule_or_refusal, read_rule}
+use Rattle.rule.specs.Reading.{network_of, action_of, ports_of, fields, first_wrong, parts_in, parts_or_place, read_parts, parts_or_refusal, rule_or_refusal, read_rule}
 use Rattle.rule.proofs.Rules.{numbered_number, make_parts, parts_make}
 use Rattle.rule.proofs.Fields.{fields_one, fields_more, spaced, spaced_fields}
 use Rattle.rule.proofs.FieldTexts.{network_of_text, text_of_network, action_of_text, text_of_action, ports_of_text, text_of_ports, no_space_network, no_space_action, no_space_ports}
@@ -32,23 +33,19 @@ fields_text (f ∷ g ∷ []) p w e = absurd (grind arith)
 fields_text (f ∷ g ∷ h ∷ []) p w e =
     let n = then_parts (network_of f) _ p e in
     let a = then_parts (action_of g) _ p n.2 in
-    let q = mapped_parts _ (ports_of h) p a.2 in
+    let q = option_map_some _ (ports_of h) p a.2 in
     let x = text_of_network f n.0 n.1 in
     let y = text_of_action g a.0 a.1 ∙ ap action_text (sym (numbered_number a.0)) in
     let z = text_of_ports h q.0 q.1 in
     subst (λ (p : Parts). f ++ 32 ∷ (g ++ 32 ∷ h) ≡ parts_text p) q.2 (λ i. x i ++ 32 ∷ (y i ++ 32 ∷ z i))
 fields_text (f ∷ g ∷ h ∷ k ∷ fs) p w e = absurd (grind arith)
 
-ok_or_some : {X Y : Type 0} (o : Option X) (e : Y) (x : X) → ok_or o e ≡ Ok x → o ≡ Some x
-ok_or_some None e x h = absurd (grind arith)
-ok_or_some (Some y) e x h = cc
-
 ok_place : (end : ℕ) (fs : List (List ℕ)) (w : Option ℕ) (p : Parts) → parts_or_place end fs w ≡ Ok p → (w ≡ None) × (parts_in fs ≡ Some p)
-ok_place end fs None p e = (refl, ok_or_some (parts_in fs) end p e)
+ok_place end fs None p e = (refl, grind arith)
 ok_place end fs (Some place) p e = absurd (grind arith)
 
 ok_parts : (o : Result Parts ℕ) (r : Rule) → rule_or_refusal o ≡ Ok r → (p : Parts) × (o ≡ Ok p) × (make p ≡ Some r)
-ok_parts (Ok p) r e = (p, refl, ok_or_some (make p) (NoRule 0) r e)
+ok_parts (Ok p) r e = (p, refl, grind arith)
 ok_parts (Err place) r e = absurd (grind arith)
 
 -- the text of a rule reads as that rule
@@ -74,3 +71,11 @@ text_read bs r e =
     let ok = ok_parts (read_parts bs) r e in
     let place = ok_place (length bs) (fields bs) (first_wrong 0 0 (fields bs)) ok.0 ok.1 in
     sym (spaced_fields bs) ∙ fields_text (fields bs) ok.0 place.0 place.1 ∙ ap parts_text (sym (parts_make ok.0 r ok.2)) ∙ parts_text_of r
+
+-- a refusal of the parts is that of the rule
+pub refused : (o : Result Parts ℕ) (e : Refusal) → parts_or_refusal o ≡ Err e → rule_or_refusal o ≡ Err e
+refused o e h = grind arith
+
+-- so what a text reads as tells whether it is the text of a rule
+pub rule_texts : (bs : List ℕ) (o : Result Rule Refusal) → o ≡ read_rule bs → ((r : Rule) → o ≡ Ok r → bs ≡ text r) × ((r : Rule) → bs ≡ text r → o ≡ Ok r)
+rule_texts bs o e = (λ r h. text_read bs r (sym e ∙ h), λ r h. e ∙ ap read_rule h ∙ read_text r)

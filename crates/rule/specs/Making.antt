@@ -1,6 +1,9 @@
 -- Which parts make a rule, and which rule they make. Assumes nothing.
-use Rattle.std.specs.Prelude.{◌≡◌, ℕ, zero, suc, ◌-◌, ◌%◌, ◌^◌, ◌<◌, ◌≤◌, Bool, true, false, ◌&&◌, Some, None, Option, ◌==◌, nat_le, nat_lt, refl}
+use Rattle.std.specs.Prelude.{◌≡◌, ℕ, zero, suc, ◌-◌, ◌%◌, ◌^◌, ◌<◌, ◌≤◌, Bool, true, false, ◌&&◌, Some, None, Option, Result, MatchResult, ◌==◌, nat_le, nat_lt, refl}
+use Rattle.std.specs.Option.{ok_or}
 use Rattle.std.proofs.lemmas.Bool.{and_parts, leb-true, ltb-true, eqb-true}
+use Rattle.refusal.specs.declared.Refusal.{Refusal}
+use Rattle.refusal.specs.declared.Refusal.TheVariants.{NoRule}
 use Rattle.rule.specs.declared.Action.{Action}
 use Rattle.rule.specs.declared.Action.TheVariants.{Allow, Block}
 use Rattle.rule.specs.declared.Parts.{Parts}
@@ -15,6 +18,10 @@ action_number Block = 1
 abbrev pub numbered : ℕ → Action
 numbered zero = Allow
 numbered (suc n) = Block
+
+-- what reading an action's number gives
+abbrev pub Numbered : ℕ → Result Action Refusal → Type 0
+Numbered n r = MatchResult r (λ a. action_number a ≡ n) (λ e. (e ≡ NoRule 0) × (1 < n))
 
 -- the parts of a rule
 abbrev pub parts_of : Rule → Parts
@@ -74,6 +81,11 @@ make_where p false e = None
 -- the rule with these parts, if they make one
 unfoldable pub make : Parts → Option Rule
 make p = make_where p (makes_rule p) refl
+
+-- what making a rule of parts gives: the rule with these parts, or the refusal of parts that make none
+pub record Made (p : Parts) (r : Result Rule Refusal) : Type 0 where
+  pub value : r ≡ ok_or (make p) (NoRule 0)
+  pub parts : MatchResult r (λ rule. parts_of rule ≡ p) (λ _. makes_rule p ≡ false)
 
 -- the parts of the open rule
 abbrev pub open_parts : Parts

@@ -79,6 +79,11 @@ read_parts bs = parts_or_place (length bs) (fields bs) (first_wrong 0 0 (fields 
 abbrev pub unreadable_at : ℕ → Refusal
 unreadable_at place = Unreadable (min place 4294967295)
 
+-- the parts, or the refusal that tells the place
+abbrev pub parts_or_refusal : Result Parts ℕ → Result Parts Refusal
+parts_or_refusal (Ok parts) = Ok parts
+parts_or_refusal (Err place) = Err (unreadable_at place)
+
 -- a text whose fields read, and whose parts make no rule, is refused at 0
 abbrev pub rule_or_refusal : Result Parts ℕ → Result Rule Refusal
 rule_or_refusal (Ok parts) = ok_or (make parts) (NoRule 0)

@@ -14,14 +14,14 @@ ghost use Rattle.std.specs.Prelude.{◌≡◌, ◌-◌, ◌%◌, ◌^◌, ◌<�
 
 pub use reading::{read_action, read_network, read_ports};
 
-#[derive(Clone, Copy, Debug)]
+#[derive(Clone, Copy, Debug, PartialEq, Eq)]
 pub enum Action {
     Allow,
     Block,
 }
 
 // The five parts of a rule as plain numbers, which need not make a rule: a table row, a record, a text that was read.
-#[derive(Clone, Copy, Debug)]
+#[derive(Clone, Copy, Debug, PartialEq, Eq)]
 pub struct Parts {
     pub address: u32,
     pub prefix: u8,
@@ -30,7 +30,7 @@ pub struct Parts {
     pub last: u16,
 }
 
-#[derive(Clone, Copy)]
+#[derive(Clone, Copy, Debug, PartialEq, Eq)]
 pub struct Rule {
     address: u32,
     prefix: u8,

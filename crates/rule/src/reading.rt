@@ -1,10 +1,10 @@
 // What a text reads as: the three fields of a rule, and the rule.
-ghost use Rattle.std.specs.Prelude.{◌≡◌, ◌+◌, ◌∷◌, length, Ok};
+ghost use Rattle.std.specs.Prelude.{◌≡◌, ◌+◌, ◌≤◌, ◌∷◌, length, IfSome, Ok, Err};
+ghost use Rattle.std.specs.Fn.{FnOnceReturnsAt};
 ghost use Rattle.std.specs.Option.{option_map};
-ghost use Rattle.std.specs.Str.{bytes_eq};
 ghost use Rattle.text.specs.Numbers.{number_of};
-ghost use Rattle.rule.specs.Reading.{dotted, address_of, network_of, action_of, ports_of, fields, read_parts, read_rule, unreadable_at};
-ghost use Rattle.rule.specs.Borrowed.{fields_behind, length_behind, octet_and_rest};
+ghost use Rattle.rule.specs.Reading.{dotted, address_of, network_of, action_of, ports_of, fields, read_parts, parts_or_refusal, read_rule, unreadable_at};
+ghost use Rattle.rule.specs.Borrowed.{fields_behind, length_behind, octet_and_rest, ReadsField};
 ghost use Rattle.rule.specs.Text.{text};
 
 use crate::{Action, Parts, Rule};
@@ -29,45 +29,23 @@ fn read_address(field: &[u8]) -> Option<u32>
     Some(u32::from_be_bytes([a, b, c, d]))
 }
 
-fn read_prefix(field: &[u8]) -> Option<u8>
-    ensures { result ≡ number_of 255 field.now }
-{
-    let prefix = number(field, 255)?;
-    Some(prefix as u8)
-}
-
-fn read_port(field: &[u8]) -> Option<u16>
-    ensures { result ≡ number_of 65535 field.now }
-{
-    let port = number(field, 65535)?;
-    Some(port as u16)
-}
-
 // An address and the length of its prefix.
 pub fn read_network(field: &[u8]) -> Option<(u32, u8)>
     ensures { result ≡ network_of field.now }
 {
     let (address, prefix) = split_once(field, b'/')?;
     let address = read_address(address)?;
-    let prefix = read_prefix(prefix)?;
-    Some((address, prefix))
-}
-
-fn is_word(field: &[u8], word: &[u8]) -> bool
-    ensures { result ≡ bytes_eq field.now word.now }
-{
-    field == word
+    let prefix = number(prefix, u64::from(u8::MAX))?;
+    Some((address, prefix as u8))
 }
 
 pub fn read_action(field: &[u8]) -> Option<Action>
     ensures { result ≡ action_of field.now }
 {
-    if is_word(field, b"allow") {
-        Some(Action::Allow)
-    } else if is_word(field, b"block") {
-        Some(Action::Block)
-    } else {
-        None
+    match field {
+        b"allow" => Some(Action::Allow),
+        b"block" => Some(Action::Block),
+        _ => None,
     }
 }
 
@@ -76,9 +54,9 @@ pub fn read_ports(field: &[u8]) -> Option<(u16, u16)>
     ensures { result ≡ ports_of field.now }
 {
     let (first, last) = split_once(field, b'-')?;
-    let first = read_port(first)?;
-    let last = read_port(last)?;
-    Some((first, last))
+    let first = number(first, u64::from(u16::MAX))?;
+    let last = number(last, u64::from(u16::MAX))?;
+    Some((first as u16, last as u16))
 }
 
 // The first field, and what stands behind the space that ends it.
@@ -92,38 +70,38 @@ fn first_field(bytes: &[u8]) -> (&[u8], Option<&[u8]>)
     }
 }
 
-// The parts that the fields write, or the place of the first wrong one.
-fn read_parts(bytes: &[u8]) -> Result<Parts, usize>
-    ensures { result ≡ read_parts bytes.now }
+// What the next field reads as, and what stands behind it.
+fn read_field<T: Copy, F: FnOnce(&[u8]) -> Option<T>>(
+    rest: Option<&[u8]>,
+    end: usize,
+    read: F,
+) -> Result<(T, Option<&[u8]>), Refusal>
+    requires callable { F.IsAlwaysCallable read }
+    requires fits { IfSome rest (λ r. length r.now ≤ end) }
+    ensures missing { rest.entry ≡ None → result ≡ Err (unreadable_at end) }
+    ensures reads { IfSome rest.entry (λ r. ReadsField (FnOnceReturnsAt F.FnOnce read) r end result) }
+{
+    let rest = rest.ok_or(unreadable(end))?;
+    let (field, behind) = first_field(rest);
+    let value = read(field).ok_or(unreadable(end - rest.len()))?;
+    Ok((value, behind))
+}
+
+// The parts that the fields write, or the refusal of the first wrong one.
+fn read_parts(bytes: &[u8]) -> Result<Parts, Refusal>
+    ensures { result ≡ parts_or_refusal (read_parts bytes.now) }
 {
     let end = bytes.len();
-    let (field, rest) = first_field(bytes);
-    let Some((address, prefix)) = read_network(field) else {
-        return Err(0);
-    };
-    let Some(rest) = rest else {
-        return Err(end);
-    };
-    let at = end - rest.len();
-    let (field, rest) = first_field(rest);
-    let Some(action) = read_action(field) else {
-        return Err(at);
-    };
-    let Some(rest) = rest else {
-        return Err(end);
-    };
-    let at = end - rest.len();
-    let (field, rest) = first_field(rest);
-    let Some((first, last)) = read_ports(field) else {
-        return Err(at);
-    };
+    let ((address, prefix), rest) = read_field(Some(bytes), end, read_network)?;
+    let (action, rest) = read_field(rest, end, read_action)?;
+    let ((first, last), rest) = read_field(rest, end, read_ports)?;
     if let Some(rest) = rest {
-        return Err(end - rest.len());
+        return Err(unreadable(end - rest.len()));
     }
     Ok(Parts {
         address,
         prefix,
-        action: action.number(),
+        action: u8::from(action),
         first,
         last,
     })
@@ -144,9 +122,6 @@ impl Rule {
         ensures one_text { (rule : Rule) → result ≡ Ok rule → bytes.now ≡ text rule }
         ensures reads_back { (rule : Rule) → bytes.now ≡ text rule → result ≡ Ok rule }
     {
-        match read_parts(bytes) {
-            Ok(parts) => Rule::from_parts(parts),
-            Err(place) => Err(unreadable(place)),
-        }
+        Rule::try_from(read_parts(bytes)?)
     }
 }

@@ -4,6 +4,7 @@ use crate::files::{load, save};
 use block::block_store::memory_size;
 use block::memory;
 use rule::Rule;
+use std::str::FromStr;
 use store::{Reading, Storing};
 
 // The kinds of stamp.
@@ -12,6 +13,9 @@ pub(crate) enum Kind {
     Clock,
     Ticket,
 }
+
+// As many open rules has a table where no number is named.
+const OPEN_RULES: u32 = 4;
 
 // Where the rules of a book lie.
 #[derive(Clone, Copy)]
@@ -52,68 +56,49 @@ pub(crate) enum Command<'a> {
     },
 }
 
-// A number as the formats have it: decimal, within 32 bits, no leading zero.
-fn number(word: &str, usage: Usage) -> Result<u32, Failure> {
-    match text::number(word.as_bytes(), 4294967295) {
-        Some(n) => Ok(n as u32),
-        None => Err(Failure::Usage(usage)),
+impl FromStr for Kind {
+    type Err = Usage;
+
+    fn from_str(word: &str) -> Result<Kind, Usage> {
+        match word {
+            "clock" => Ok(Kind::Clock),
+            "ticket" => Ok(Kind::Ticket),
+            _ => Err(Usage::Stamps),
+        }
     }
 }
 
-fn kind_of(word: &str) -> Result<Kind, Failure> {
-    match word {
-        "clock" => Ok(Kind::Clock),
-        "ticket" => Ok(Kind::Ticket),
-        _ => Err(Failure::Usage(Usage::Stamps)),
-    }
+// A number as the formats have it: decimal, within 32 bits, no leading zero.
+fn number(word: &str, usage: Usage) -> Result<u32, Usage> {
+    let number = text::number(word.as_bytes(), u64::from(u32::MAX)).ok_or(usage)?;
+    Ok(number as u32)
 }
 
 // A script, if one is named.
-fn script_of(words: &[String]) -> Result<Option<&str>, Failure> {
+fn script_of<'a>(words: &[&'a str]) -> Result<Option<&'a str>, Usage> {
     match words {
         [] => Ok(None),
-        [script] => Ok(Some(script.as_str())),
-        _ => Err(Failure::Usage(Usage::Command)),
+        [script] => Ok(Some(*script)),
+        _ => Err(Usage::Command),
     }
 }
 
-// The kind of stamp, if one is named, and the words behind it.
-fn stamps_of(words: &[String]) -> Result<(Kind, &[String]), Failure> {
+// The kind of stamp, if one is named, and the script behind it.
+fn stamps_and_script<'a>(words: &[&'a str]) -> Result<(Kind, Option<&'a str>), Usage> {
     match words {
-        [option, kind, rest @ ..] if option.as_str() == "--stamps" => Ok((
-            kind_of(kind.as_str())?,
-            rest,
-        )),
-        _ => Ok((Kind::Clock, words)),
+        ["--stamps", kind, rest @ ..] => Ok((kind.parse()?, script_of(rest)?)),
+        _ => Ok((Kind::Clock, script_of(words)?)),
     }
-}
-
-// Where the rules lie, and the words behind it.
-fn place_of(words: &[String]) -> Result<(Place<'_>, &[String]), Failure> {
-    match words {
-        [option, slots, rest @ ..] if option.as_str() == "--slots" => Ok((
-            Place::Table(number(slots.as_str(), Usage::Slots)?),
-            rest,
-        )),
-        [option, file, rest @ ..] if option.as_str() == "--image" => Ok((
-            Place::Image(file.as_str()),
-            rest,
-        )),
-        _ => Ok((Place::Table(4), words)),
-    }
-}
-
-fn lint(words: &[String]) -> Result<Command<'_>, Failure> {
-    let (stamps, rest) = stamps_of(words)?;
-    let script = script_of(rest)?;
-    Ok(Command::Lint { stamps, script })
 }
 
 // A script of calls, with its options.
-fn play(words: &[String]) -> Result<Command<'_>, Failure> {
-    let (place, rest) = place_of(words)?;
-    let (stamps, rest) = stamps_of(rest)?;
-    let script = script_of(rest)?;
+fn play<'a>(words: &[&'a str]) -> Result<Command<'a>, Usage> {
+    let (place, rest) = match words {
+        ["--slots", slots, rest @ ..] => (Place::Table(number(slots, Usage::Slots)?), rest),
+        ["--image", file, rest @ ..] => (Place::Image(*file), rest),
+        _ => (Place::Table(OPEN_RULES), words),
+    };
+    let (stamps, script) = stamps_and_script(rest)?;
     Ok(Command::Play {
         place,
         stamps,
@@ -121,34 +106,28 @@ fn play(words: &[String]) -> Result<Command<'_>, Failure> {
     })
 }
 
-pub(crate) fn read(words: &[String]) -> Result<Command<'_>, Failure> {
-    let [first, rest @ ..] = words else {
-        return play(words);
-    };
-    match (first.as_str(), rest) {
-        ("lint", rest) => lint(rest),
-        ("task", []) => Ok(Command::Task),
-        ("help", []) => Ok(Command::Help),
-        ("format", [file, slots]) => Ok(Command::Format {
-            file: file.as_str(),
-            slots: number(slots.as_str(), Usage::Slots)?,
+pub(crate) fn read<'a>(words: &[&'a str]) -> Result<Command<'a>, Usage> {
+    match words {
+        ["lint", rest @ ..] => {
+            let (stamps, script) = stamps_and_script(rest)?;
+            Ok(Command::Lint { stamps, script })
+        }
+        ["task"] => Ok(Command::Task),
+        ["help"] => Ok(Command::Help),
+        ["format", file, slots] => Ok(Command::Format {
+            file: *file,
+            slots: number(slots, Usage::Slots)?,
         }),
-        ("set", [file, slot, network, action, ports]) => Ok(Command::Set {
-            file: file.as_str(),
-            slot: number(slot.as_str(), Usage::Slot)?,
-            network: network.as_str(),
-            action: action.as_str(),
-            ports: ports.as_str(),
+        ["set", file, slot, network, action, ports] => Ok(Command::Set {
+            file: *file,
+            slot: number(slot, Usage::Slot)?,
+            network: *network,
+            action: *action,
+            ports: *ports,
         }),
-        ("show", [file]) => Ok(Command::Show {
-            file: file.as_str(),
-        }),
-        ("check", [file]) => Ok(Command::Check {
-            file: file.as_str(),
-        }),
-        ("format" | "set" | "show" | "check" | "task" | "help", _) => Err(Failure::Usage(
-            Usage::Command,
-        )),
+        ["show", file] => Ok(Command::Show { file: *file }),
+        ["check", file] => Ok(Command::Check { file: *file }),
+        ["format" | "set" | "show" | "check" | "task" | "help", ..] => Err(Usage::Command),
         _ => play(words),
     }
 }

@@ -1,30 +1,24 @@
 // Why the program stops with status 1: one line for each reason.
 use refusal::Refusal;
-use std::alloc::{AllocError, AllocFailed, Global};
+use std::alloc::{AllocError, Global};
 use std::{fmt, io};
+use thiserror::Error;
 
 // What is wrong with the words on the command line.
-#[derive(Clone, Copy)]
+#[derive(Clone, Copy, Debug, Error)]
 pub(crate) enum Usage {
+    #[error("no such command, or not its words")]
     Command,
+    #[error("SLOTS is a decimal number")]
     Slots,
+    #[error("SLOT is a decimal number")]
     Slot,
+    #[error("the stamps are clock or ticket")]
     Stamps,
 }
 
-impl fmt::Display for Usage {
-    fn fmt<W: fmt::Write>(&self, f: &mut fmt::Formatter<W>) -> fmt::Result {
-        match *self {
-            Usage::Command => write!(f, "no such command, or not its words"),
-            Usage::Slots => write!(f, "SLOTS is a decimal number"),
-            Usage::Slot => write!(f, "SLOT is a decimal number"),
-            Usage::Stamps => write!(f, "the stamps are clock or ticket"),
-        }
-    }
-}
-
 // What was tried on a file.
-#[derive(Clone, Copy)]
+#[derive(Clone, Copy, Debug)]
 pub(crate) enum Tried {
     Read,
     Write,
@@ -39,62 +33,53 @@ impl fmt::Display for Tried {
     }
 }
 
-#[derive(Drop)]
+// A refusal, told by its numbers and in words.
+#[derive(Clone, Copy, Debug)]
+pub(crate) struct Cause(pub(crate) Refusal);
+
+impl fmt::Display for Cause {
+    fn fmt<W: fmt::Write>(&self, f: &mut fmt::Formatter<W>) -> fmt::Result {
+        let Cause(refusal) = *self;
+        let meaning = refusal.meaning();
+        write!(f, "{refusal}: {meaning}")
+    }
+}
+
+#[derive(Debug, Drop, Error)]
 pub(crate) enum Failure {
-    Usage(Usage),
-    Refused(Refusal),
-    // a file that cannot be read or written
+    #[error("{0}; see rulebook help")]
+    Usage(#[from] Usage),
+    #[error("refused {0}")]
+    Refused(Cause),
+    #[error("cannot {tried} {file}: {error}")]
     File {
         tried: Tried,
         file: String,
         error: io::Error,
     },
-    // standard input or output, the arguments, or want of memory
-    System(io::Error),
-}
-
-impl fmt::Display for Failure {
-    fn fmt<W: fmt::Write>(&self, f: &mut fmt::Formatter<W>) -> fmt::Result {
-        match self {
-            Failure::Usage(usage) => write!(f, "{usage}; see rulebook help"),
-            Failure::Refused(refusal) => {
-                let meaning = refusal.meaning();
-                write!(f, "refused {refusal}: {meaning}")
-            }
-            Failure::File { tried, file, error } => write!(f, "cannot {tried} {file}: {error}"),
-            Failure::System(error) => write!(f, "{error}"),
-        }
-    }
+    // standard input or output, or the arguments
+    #[error(transparent)]
+    System(#[from] io::Error),
+    #[error("out of memory")]
+    Memory(#[from(alloc)] AllocError),
 }
 
 impl From<Refusal> for Failure {
     fn from(refusal: Refusal) -> Failure {
-        Failure::Refused(refusal)
+        Failure::Refused(Cause(refusal))
     }
 }
 
-impl From<io::Error> for Failure {
-    fn from(error: io::Error) -> Failure {
-        Failure::System(error)
-    }
+// Tells of an error what was tried, and on which file.
+pub(crate) trait OnFile<T> {
+    fn on_file(self, heap: Global, tried: Tried, file: &str) -> Result<T, Failure>;
 }
 
-impl From<AllocError> for Failure {
-    fn from(error: AllocError) -> Failure {
-        Failure::System(io::Error::from(error))
-    }
-}
-
-impl<T: Drop> From<AllocFailed<T>> for Failure {
-    fn from(_error: AllocFailed<T>) -> Failure {
-        Failure::System(io::Error::from(AllocError))
-    }
-}
-
-// The failure to read or write a file.
-pub(crate) fn file_failure(heap: Global, tried: Tried, file: &str, error: io::Error) -> Failure {
-    match String::from_str(heap, file) {
-        Ok(file) => Failure::File { tried, file, error },
-        Err(_) => Failure::System(error),
+impl<T> OnFile<T> for io::Result<T> {
+    fn on_file(self, heap: Global, tried: Tried, file: &str) -> Result<T, Failure> {
+        self.map_err(|error| match String::from_str(heap, file) {
+            Ok(file) => Failure::File { tried, file, error },
+            Err(_) => Failure::System(error),
+        })
     }
 }

@@ -1,5 +1,5 @@
 // Image files: read whole, and replaced whole.
-use crate::failure::{Failure, Tried, file_failure};
+use crate::failure::{Failure, OnFile, Tried};
 use block::block_store::BlockStore;
 use std::fs::File;
 use std::io::Write;
@@ -7,10 +7,8 @@ use std::path::Path;
 use std::{fs, io};
 
 pub(crate) fn load(rt: &HostRuntime, file: &str) -> Result<BlockStore, Failure> {
-    match fs::read(rt, file) {
-        Ok(bytes) => Ok(image::open(bytes)?),
-        Err(error) => Err(file_failure(rt.alloc(), Tried::Read, file, error)),
-    }
+    let bytes = fs::read(rt, file).on_file(rt.alloc(), Tried::Read, file)?;
+    Ok(image::open(bytes)?)
 }
 
 fn write_new(rt: &HostRuntime, file: &str, bytes: &[u8]) -> io::Result<()> {
@@ -30,10 +28,9 @@ fn write_and_rename(rt: &HostRuntime, file: &str, new: &str, bytes: &[u8]) -> io
 // A name lasts once its folder is synced, too.
 fn sync_folder(rt: &HostRuntime, file: &str) -> io::Result<()> {
     let folder = match Path::new(file).parent() {
-        Some(folder) => folder.to_string_lossy(),
-        None => "",
+        Some(folder) if folder != Path::new("") => folder,
+        _ => Path::new("."),
     };
-    let folder = if folder.is_empty() { "." } else { folder };
     File::open(rt, folder)?.sync_all()
 }
 
@@ -48,8 +45,5 @@ fn replace(rt: &HostRuntime, file: &str, bytes: &[u8]) -> io::Result<()> {
 
 // Writes the bytes to a new file and gives it the name of the old one, so that whoever pulls the plug finds the old image or the new one.
 pub(crate) fn save(rt: &HostRuntime, file: &str, bytes: &[u8]) -> Result<(), Failure> {
-    match replace(rt, file, bytes) {
-        Ok(()) => Ok(()),
-        Err(error) => Err(file_failure(rt.alloc(), Tried::Write, file, error)),
-    }
+    replace(rt, file, bytes).on_file(rt.alloc(), Tried::Write, file)
 }

@@ -1,35 +1,67 @@
-// Lines of a script, read one at a time, and lines of answers.
-use crate::failure::{Failure, Tried, file_failure};
-use std::io::BufRead;
+// Scripts, read line by line, and the answers to their lines.
+use crate::failure::{Failure, OnFile, Tried};
+use answer::AnswerLine;
+use protocol::Answer;
+use std::fs::File;
+use std::io::{BufRead, BufReader, Read};
 
-// What a script without a name of its own is called.
-pub(crate) const INPUT: &str = "standard input";
+#[derive(Drop)]
+pub(crate) struct Script<'a, R> {
+    // told where the script cannot be read
+    name: &'a str,
+    lines: BufReader<R>,
+}
 
-const OUTPUT: &str = "standard output";
+impl<'a, R: Read + Drop> Script<'a, R> {
+    pub(crate) fn new(rt: &HostRuntime, name: &'a str, reader: R) -> Result<Self, Failure> {
+        let lines = BufReader::new(rt.alloc(), reader)?;
+        Ok(Script { name, lines })
+    }
 
-// Reads the next line of a script, without the byte that ends it, if there is one. The name is told if it cannot be read.
-pub(crate) fn next_line(
-    rt: &HostRuntime,
-    name: &str,
-    script: &mut impl BufRead,
-    line: &mut Vec<u8>,
-) -> Result<bool, Failure> {
-    line.clear();
-    match script.read_until(b'\n', line) {
-        Ok(read) => {
-            if line.last().copied() == Some(b'\n') {
-                line.pop();
+    // Reads the next line, without the byte that ends it: whether there is one. All lines have one buffer, so that none takes memory of its own.
+    fn read_line(&mut self, rt: &HostRuntime, line: &mut Vec<u8>) -> Result<bool, Failure> {
+        line.clear();
+        let read = self
+            .lines
+            .read_until(b'\n', line)
+            .on_file(rt.alloc(), Tried::Read, self.name)?;
+        line.pop_if(|last| *last == b'\n');
+        Ok(read > 0)
+    }
+
+    // Answers the lines one after another. An answer is written out whole before the next line is read, since whoever asked may wait for it.
+    pub(crate) fn answer<F: FnMut(&[u8]) -> Result<Answer, Failure>>(
+        mut self,
+        rt: &HostRuntime,
+        mut answer_to: F,
+    ) -> Result<(), Failure>
+        requires { F.IsAlwaysCallable answer_to }
+    {
+        let mut asked = Vec::new(rt.alloc());
+        let mut written = String::new(rt.alloc());
+        // no script has more lines
+        for line in 1..u64::MAX {
+            if !self.read_line(rt, &mut asked)? {
+                break;
             }
-            Ok(read > 0)
+            let answer = answer_to(asked.as_slice())?;
+            let told = AnswerLine { line, answer };
+            written.clear();
+            writeln!(written, "{told}")?;
+            write_out(rt, written.as_bytes())?;
         }
-        Err(error) => Err(file_failure(rt.alloc(), Tried::Read, name, error)),
+        Ok(())
     }
 }
 
+// The script in a file.
+pub(crate) fn open<'a>(rt: &HostRuntime, name: &'a str) -> Result<Script<'a, File>, Failure> {
+    let file = File::open(rt, name).on_file(rt.alloc(), Tried::Read, name)?;
+    Script::new(rt, name, file)
+}
+
 // Writes bytes out at once.
-pub(crate) fn write_out(rt: &HostRuntime, bytes: &[u8]) -> Result<(), Failure> {
-    match rt.write_all(bytes) {
-        Ok(()) => Ok(()),
-        Err(error) => Err(file_failure(rt.alloc(), Tried::Write, OUTPUT, error)),
-    }
+fn write_out(rt: &HostRuntime, bytes: &[u8]) -> Result<(), Failure> {
+    rt.write_all(bytes)
+        .on_file(rt.alloc(), Tried::Write, "standard output")
 }

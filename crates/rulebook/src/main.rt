@@ -33,7 +33,8 @@ A RULE is three words, ADDRESS/PREFIX ACTION FIRST-LAST, as in 192.0.2.0/24 bloc
 
 fn run(rt: &HostRuntime) -> Result<(), Failure> {
     let words: Vec<String> = env::args(rt)?.skip(1).collect(rt.alloc())?;
-    match commands::read(words.as_slice())? {
+    let words: Vec<&str> = words.iter().map(|word| word.as_str()).collect(rt.alloc())?;
+    match commands::read(&words)? {
         Command::Play {
             place,
             stamps,

@@ -1,5 +1,5 @@
 // The whole task in memory: a store is formatted, written, read and damaged.
-use crate::failure::Failure;
+use crate::failure::{Cause, Failure};
 use block::block_store::{BlockStore, memory_size};
 use block::memory;
 use rule::Rule;
@@ -12,8 +12,8 @@ fn print_slots(rt: &HostRuntime, store: &mut impl Reading) -> Result<(), Failure
         match store.get(slot) {
             Ok(rule) => println!(rt; "  slot {slot}: {rule}")?,
             Err(refusal) => {
-                let meaning = refusal.meaning();
-                println!(rt; "  slot {slot}: refused {refusal}: {meaning}")?;
+                let cause = Cause(refusal);
+                println!(rt; "  slot {slot}: refused {cause}")?;
             }
         }
     }
@@ -37,8 +37,8 @@ pub(crate) fn run(rt: &HostRuntime) -> Result<(), Failure> {
     let mut store = BlockStore::new(bytes, SLOTS);
     print_slots(rt, &mut store)?;
     if let Err(refusal) = store.put(3, rule) {
-        let meaning = refusal.meaning();
-        println!(rt; "put into slot 3: refused {refusal}: {meaning}")?;
+        let cause = Cause(refusal);
+        println!(rt; "put into slot 3: refused {cause}")?;
     }
     Ok(())
 }

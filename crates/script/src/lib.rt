@@ -21,16 +21,14 @@ use store::Storing;
 
 // Does a line.
 pub fn do_line<S: Storing, K: Stamp>(book: &mut Book<S>, line: &[u8]) -> Answer
-    ensures answer { Sound S.Reading.entries S.Reading.sound book.old → answer_view result ≡ line_answer K.Stamp.key_of (call_of K.Stamp.reads line.now) (view S.Reading.entries book.old) }
-    ensures after { Sound S.Reading.entries S.Reading.sound book.old → view S.Reading.entries book.new ≡ line_after K.Stamp.key_of (call_of K.Stamp.reads line.now) (view S.Reading.entries book.old) }
+    ensures answer { Sound S.Reading book.old → answer_view result ≡ line_answer K.Stamp.key_of (call_of K.Stamp.reads line.now) (view S.Reading book.old) }
+    ensures after { Sound S.Reading book.old → view S.Reading book.new ≡ line_after K.Stamp.key_of (call_of K.Stamp.reads line.now) (view S.Reading book.old) }
     ensures refused { (e : Refusal) → call_of K.Stamp.reads line.now ≡ Err e → book.new ≡ book.old }
-    ensures sound { Sound S.Reading.entries S.Reading.sound book.old → Sound S.Reading.entries S.Reading.sound book.new }
+    ensures sound { Sound S.Reading book.old → Sound S.Reading book.new }
     ensures store { S.Reading.sound book.old.store → S.Reading.sound book.new.store }
-    ensures reached { S.Reading.sound book.old.store → (first : List Entry) (h : List Event) → Reached first h (view S.Reading.entries book.old) → Reached first (line_history K.Stamp.key_of (call_of K.Stamp.reads line.now) (answer_view result) h) (view S.Reading.entries book.new) }
-    ensures law { S.Reading.sound book.old.store → (first : List Entry) (h : List Event) → Reached first h (view S.Reading.entries book.old) → LawOf first (line_history K.Stamp.key_of (call_of K.Stamp.reads line.now) (answer_view result) h) (S.Reading.entries book.new.store) }
+    ensures reached { S.Reading.sound book.old.store → (first : List Entry) (h : List Event) → Reached first h (view S.Reading book.old) → Reached first (line_history K.Stamp.key_of (call_of K.Stamp.reads line.now) (answer_view result) h) (view S.Reading book.new) }
+    ensures law { S.Reading.sound book.old.store → (first : List Entry) (h : List Event) → Reached first h (view S.Reading book.old) → LawOf first (line_history K.Stamp.key_of (call_of K.Stamp.reads line.now) (answer_view result) h) (S.Reading.entries book.new.store) }
 {
-    match read_call::<K>(line) {
-        Ok(call) => book.apply(call),
-        Err(refusal) => Answer::Refused(refusal),
-    }
+    let call = read_call::<K>(line)?;
+    book.apply(call)
 }

@@ -2,15 +2,17 @@
 use Rattle.std.proofs.Common.{◌≡◌, ℕ, ◌<◌, ◌≤◌, Bool, true, false, cond, ◌&&◌, eqb, ltb, List, map, length, get_or, set, Some, None, Option, sym, refl, ap, ◌∙◌, ⊎_elim}
 use mathlib.Core.Path.{fun_ext}
 use lib.ListN.{length-map}
-use Rattle.std.proofs.lemmas.Bool.{cases_eq, eq-eqb, ne_eqb, lt-ltb, le-ltb, cond_below}
+use Rattle.std.specs.Option.{unwrap_or}
+use Rattle.std.proofs.lemmas.Bool.{cases_lt, cases_eq, eq-eqb, ne_eqb, lt-ltb, le-ltb, cond_below, cond_above}
 use Rattle.std.proofs.lemmas.List.{get_or-map, map-set, get_or-set_same, get_or-set_other}
+use Rattle.std.proofs.lemmas.Option.{slice_get_within, get_or_from_slice_get}
 use Rattle.law.specs.Accounts.{changed}
 use Rattle.tables.specs.Meaning.{below}
 use Rattle.tables.proofs.Tables.{changed_here, changed_other}
 use Rattle.calls.specs.State.{Session, fresh, no_work}
 use Rattle.calls.specs.Effects.{committed, notified}
 use Rattle.session.specs.declared.Record.{Record}
-use Rattle.session.specs.Views.{view, sessions_of, after_commit}
+use Rattle.session.specs.Views.{view, sessions_of, after_commit, Changed}
 
 inside : (rs : List Record) (s : ℕ) → s < 8 → sessions_of rs s ≡ get_or (map view rs) s fresh
 inside rs s l = ap (λ b. cond b (get_or (map view rs) s fresh) fresh) (lt-ltb s 8 l)
@@ -39,13 +41,36 @@ same : (b : Bool) (p : Session) → cond b p p ≡ p
 same true p = refl
 same false p = refl
 
--- a record changed at a slot, if it is one
-pub write_slot : (rs : List Record) (s : ℕ) (r d : Record) (x : ℕ) (f : Session → Session) → s < 8 → s < length rs → view r ≡ below 64 x f (view (get_or rs s d)) → sessions_of (set rs s r) ≡ below 8 s (below 64 x (changed s f)) (sessions_of rs)
-write_slot rs s r d x f k l e = write_record rs s r d (below 64 x f) k l e ∙ ap (λ g. cond (ltb s 8) g (sessions_of rs)) (fun_ext (λ t. apart (ltb x 64) t))
+-- a call that does to a record what f does to a session
+pub record_changed : {R : Type 0} {call : Record → R → Record → Type 0} {old new : List Record} {s : ℕ} {o : Option R} (f : Session → Session) → Changed call old new s o → ((a : Record) (r : R) (b : Record) → call a r b → view b ≡ f (view a)) → sessions_of new ≡ below 8 s (changed s f) (sessions_of old)
+record_changed {old = old} {new = new} {s = s} f c does = ⊎_elim inner outer (cases_lt s 8)
   where
-    apart : (b : Bool) (t : ℕ) → changed s (λ p. cond b (f p) p) (sessions_of rs) t ≡ cond b (changed s f (sessions_of rs)) (sessions_of rs) t
+    inner : s < 8 → sessions_of new ≡ below 8 s (changed s f) (sessions_of old)
+    inner l =
+        let (r, a, b, given, called, here, stored) = c.inside l in
+        ap sessions_of stored ∙ write_record old s b a f l (slice_get_within old s a here) (does a r b called ∙ ap (λ x. f (view x)) (sym (get_or_from_slice_get old s a a here)))
+
+    outer : 8 ≤ s → sessions_of new ≡ below 8 s (changed s f) (sessions_of old)
+    outer l = cond_above s 8 _ _ _ l (ap sessions_of (c.outside l).1)
+
+pub slot_changed : {R : Type 0} {call : Record → R → Record → Type 0} {old new : List Record} {s : ℕ} {o : Option R} (x : ℕ) (f : Session → Session) → Changed call old new s o → ((a : Record) (r : R) (b : Record) → call a r b → view b ≡ below 64 x f (view a)) → sessions_of new ≡ below 8 s (below 64 x (changed s f)) (sessions_of old)
+slot_changed {old = old} {s = s} x f c does = record_changed (below 64 x f) c does ∙ ap (λ g. cond (ltb s 8) g (sessions_of old)) (fun_ext (λ t. apart (ltb x 64) t))
+  where
+    apart : (b : Bool) (t : ℕ) → changed s (λ p. cond b (f p) p) (sessions_of old) t ≡ cond b (changed s f (sessions_of old)) (sessions_of old) t
     apart true t = refl
-    apart false t = same (eqb t s) (sessions_of rs t)
+    apart false t = same (eqb t s) (sessions_of old t)
+
+-- a call that gives what g says of a session; of a session that has done nothing, where there is no such session
+pub given_is : {R : Type 0} {call : Record → R → Record → Type 0} {old new : List Record} {s : ℕ} {o : Option R} (g : Session → R) → Changed call old new s o → ((a : Record) (r : R) (b : Record) → call a r b → r ≡ g (view a)) → unwrap_or o (g fresh) ≡ g (sessions_of old s)
+given_is {old = old} {s = s} {o = o} g c does = ⊎_elim inner outer (cases_lt s 8)
+  where
+    inner : s < 8 → unwrap_or o (g fresh) ≡ g (sessions_of old s)
+    inner l =
+        let (r, a, b, given, called, here, stored) = c.inside l in
+        ap (λ x. unwrap_or x (g fresh)) given ∙ does a r b called ∙ ap g (ap view (sym (get_or_from_slice_get old s a a here)) ∙ read_record old s a l (slice_get_within old s a here))
+
+    outer : 8 ≤ s → unwrap_or o (g fresh) ≡ g (sessions_of old s)
+    outer l = ap (λ x. unwrap_or x (g fresh)) (c.outside l).0 ∙ ap g (sym (past_records old s l))
 
 no_notice : (b : Bool) (n : ℕ) → cond (b && false) (Some n) None ≡ None
 no_notice true n = refl

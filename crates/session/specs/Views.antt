@@ -1,5 +1,5 @@
 -- What the record of a session means, and the table of them. Assumes nothing.
-use Rattle.std.specs.Prelude.{ℕ, Bool, cond, List, map, ◌==◌, nat_lt, slice_index_or}
+use Rattle.std.specs.Prelude.{◌≡◌, ℕ, ◌<◌, ◌≤◌, Bool, cond, List, map, Some, None, Option, ◌==◌, nat_lt, slice_get, slice_set, slice_index_or}
 use Rattle.slots.specs.Meaning.{has}
 use Rattle.tables.specs.Meaning.{at}
 use Rattle.calls.specs.State as state
@@ -27,3 +27,8 @@ sessions_of rs s = cond (nat_lt s 8) (slice_index_or (map view rs) s fresh) fres
 -- the sessions after one of them committed a change that replaced some slots
 abbrev pub after_commit : ℕ → (ℕ → Bool) → ℕ → (ℕ → Session) → ℕ → Session
 after_commit s slots n f t = cond (t == s) (committed (f t)) (notified slots n (f t))
+
+-- a call changed the record of a session and gave a value; where there is no such session, there was no call
+pub record Changed {R : Type 0} (call : Record → R → Record → Type 0) (old new : List Record) (s : ℕ) (given : Option R) : Type 0 where
+  pub outside : 8 ≤ s → (given ≡ None) × (new ≡ old)
+  pub inside : s < 8 → (r : R) × (before after : Record) × (given ≡ Some r) × call before r after × (slice_get old s ≡ Some before) × (new ≡ slice_set old s after)

@@ -10,7 +10,7 @@ ghost use Rattle.session.specs.Views.{phase_view, view};
 use crate::{Phase, Record};
 use rule::Rule;
 use slots::SlotSet;
-use tables::{common, lowest_below};
+use tables::lowest_below;
 
 impl Record {
     pub fn phase(&self) -> Phase
@@ -22,7 +22,7 @@ impl Record {
     pub fn holds(&self, slot: u32) -> bool
         ensures { result ≡ held (view self.now).desk slot }
     {
-        self.copies.slots().contains(slot)
+        self.copies.get(slot).is_some()
     }
 
     pub fn has_read(&self, slot: u32) -> bool
@@ -35,10 +35,7 @@ impl Record {
     pub fn shown(&self, slot: u32) -> Option<Rule>
         ensures { result ≡ shown (view self.now) slot }
     {
-        match self.staged(slot) {
-            Some(rule) => Some(rule),
-            None => self.copies.get(slot),
-        }
+        self.staged(slot).or(self.copies.get(slot))
     }
 
     pub fn learnt(&self) -> u32
@@ -77,6 +74,6 @@ impl Record {
     pub fn stale(&self, count: u32) -> Option<u32>
         ensures { result ≡ lowest count (shared (view self.now).work.read (noticed (view self.now).desk)) }
     {
-        lowest_below(count, common(self.slots_read(), self.noticed()))
+        lowest_below(count, self.slots_read().intersection(self.noticed()))
     }
 }

@@ -16,10 +16,10 @@ ghost use Rattle.session.specs.Views.{view};
 use rule::Rule;
 use slots::SlotSet;
 pub use table::{SESSIONS, Sessions};
-use tables::{SlotMap, common, meets_below, no_slots, with_slot};
+use tables::{SlotMap, meets_below};
 
 // Whether a session has a change, and how far it is.
-#[derive(Clone, Copy)]
+#[derive(Clone, Copy, PartialEq, Eq)]
 pub enum Phase {
     Idle,
     Open,
@@ -27,6 +27,7 @@ pub enum Phase {
     Pending,
 }
 
+// No `impl Model`, here and in the table of the eight: both mean functions, and the value of a model has to be data.
 #[derive(Clone, Copy)]
 pub struct Record {
     phase: Phase,
@@ -48,20 +49,19 @@ impl Record {
     {
         Record {
             phase: Phase::Idle,
-            copies: SlotMap::new(Rule::open()),
-            notices: SlotMap::new(0),
+            copies: SlotMap::new(),
+            notices: SlotMap::new(),
             learnt: 0,
-            read: no_slots(),
-            staged: SlotMap::new(Rule::open()),
+            read: SlotSet::new(),
+            staged: SlotMap::new(),
         }
     }
 
     pub(crate) fn begin(&mut self)
         ensures { view self.new ≡ begun (view self.old) }
     {
+        self.abort();
         self.phase = Phase::Open;
-        self.read = no_slots();
-        self.staged.clear();
     }
 
     pub(crate) fn fetch(&mut self, slot: u32, rule: Rule)
@@ -71,10 +71,11 @@ impl Record {
         self.notices.remove(slot);
     }
 
+    #[tactic(auto, using(tables::proofs::Counts::inserted_is))]
     pub(crate) fn note_read(&mut self, slot: u32)
         ensures { view self.new ≡ below 64 slot (having_read slot) (view self.old) }
     {
-        self.read = with_slot(self.read, slot);
+        self.read.insert(slot);
     }
 
     pub(crate) fn write(&mut self, slot: u32, rule: Rule)
@@ -100,7 +101,7 @@ impl Record {
         ensures { view self.new ≡ aborted (view self.old) }
     {
         self.phase = Phase::Idle;
-        self.read = no_slots();
+        self.read = SlotSet::new();
         self.staged.clear();
     }
 
@@ -116,7 +117,7 @@ impl Record {
     pub(crate) fn notify(&mut self, slots: SlotSet, number: u32)
         ensures { view self.new ≡ notified (has slots) number (view self.old) }
     {
-        let told = common(slots, self.copies.slots());
+        let told = slots.intersection(self.copies.slots());
         self.notices.mark(told, number);
     }
 
@@ -128,13 +129,11 @@ impl Record {
         let noticed = self.notices.slots();
         self.copies.clear_all(noticed);
         self.learnt = number;
-        match (self.phase, meets_below(count, self.read, noticed)) {
-            (Phase::Open, true) => {
-                self.abort();
-                true
-            }
-            _ => false,
+        let ends = self.phase == Phase::Open && meets_below(count, self.read, noticed);
+        if ends {
+            self.abort();
         }
+        ends
     }
 
     // Notices up to a number go.

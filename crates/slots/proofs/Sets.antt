@@ -1,5 +1,5 @@
 -- Laws of sets of slots, for every bound. Assumes nothing.
-use Rattle.std.proofs.Common.{◌≡◌, ℕ, zero, suc, ◌+◌, ◌<◌, ◌≤◌, Bool, true, false, cond, not, ◌&&◌, ◌||◌, eqb, ltb, ◌⊎◌, Some, None, Decides, Option, sym, refl, ap, ◌∙◌, ap₂, inl, inr, ⊎_elim, add-one, arith}
+use Rattle.std.proofs.Common.{◌≡◌, ℕ, zero, suc, ◌+◌, ◌<◌, ◌≤◌, Bool, true, false, cond, not, ◌&&◌, ◌||◌, eqb, ◌⊎◌, Some, None, Decides, Option, sym, refl, ap, ◌∙◌, ap₂, inl, inr, ⊎_elim, arith}
 use mathlib.Core.Path.{fun_ext}
 use mathlib.Core.Bool.{and_comm, and-true, or-false}
 use Rattle.std.proofs.lemmas.Bool.{both_ways, eq-eqb, ne_eqb, lt-ltb, le-ltb, and_parts, and_from, and_left, and_right, or_left, or_right, or_cases, or_from, not_from_true, cases_lt, cases_eq, cases_Bool}
@@ -8,37 +8,26 @@ use Rattle.slots.specs.Sets.{none, alone, either, both, without, inserted, remov
 -- ---- member by member
 
 pub none_at : (y : ℕ) → none y ≡ false
-unfolding none
 none_at y = refl
 
-pub alone_at : (x y : ℕ) → alone x y ≡ (eqb y x && ltb x 64)
-unfolding alone
-alone_at x y = refl
-
 pub either_at : (f g : ℕ → Bool) (y : ℕ) → either f g y ≡ (f y || g y)
-unfolding either
 either_at f g y = refl
 
 pub both_at : (f g : ℕ → Bool) (y : ℕ) → both f g y ≡ (f y && g y)
-unfolding both
 both_at f g y = refl
 
 pub without_at : (f g : ℕ → Bool) (y : ℕ) → without f g y ≡ (f y && not (g y))
-unfolding without
 without_at f g y = refl
 
 -- a slot is alone in its set
 pub alone_same : (x : ℕ) → x < 64 → alone x x ≡ true
-unfolding alone
 alone_same x h = and_from _ _ (eq-eqb x x refl) (lt-ltb x 64 h)
 
 pub alone_other : (x y : ℕ) → (y ≡ x → ⊥) → alone x y ≡ false
-unfolding alone
 alone_other x y ne = and_left _ _ (ne_eqb y x ne)
 
 -- what is no slot is in no set alone
 pub alone_outside : (x : ℕ) → 64 ≤ x → alone x ≡ none
-unfolding alone none
 alone_outside x h = fun_ext (λ y. and_right (eqb y x) _ (le-ltb x 64 h))
 
 -- a slot is in the set that it was inserted into
@@ -52,9 +41,6 @@ inserted_other f x y ne = either_at f (alone x) y ∙ ap (λ b. f y || b) (alone
 pub inserted_outside : (f : ℕ → Bool) (x : ℕ) → 64 ≤ x → inserted f x ≡ f
 inserted_outside f x h = fun_ext (λ y. either_at f (alone x) y ∙ ap (λ b. f y || b) (ap (λ g. g y) (alone_outside x h) ∙ none_at y) ∙ or-false (f y))
 
-pub inserted_at : (f : ℕ → Bool) (x y : ℕ) → inserted f x y ≡ (f y || (eqb y x && ltb x 64))
-inserted_at f x y = either_at f (alone x) y ∙ ap (λ b. f y || b) (alone_at x y)
-
 -- a slot is not in the set that it was removed from
 pub removed_same : (f : ℕ → Bool) (x : ℕ) → x < 64 → removed f x x ≡ false
 removed_same f x h = without_at f (alone x) x ∙ and_right (f x) _ (not_from_true _ (alone_same x h))
@@ -66,18 +52,7 @@ removed_other f x y ne = without_at f (alone x) y ∙ ap (λ b. f y && not b) (a
 pub removed_outside : (f : ℕ → Bool) (x : ℕ) → 64 ≤ x → removed f x ≡ f
 removed_outside f x h = fun_ext (λ y. without_at f (alone x) y ∙ ap (λ b. f y && not b) (ap (λ g. g y) (alone_outside x h) ∙ none_at y) ∙ and-true (f y))
 
-pub removed_at : (f : ℕ → Bool) (x y : ℕ) → removed f x y ≡ (f y && not (eqb y x && ltb x 64))
-removed_at f x y = without_at f (alone x) y ∙ ap (λ b. f y && not b) (alone_at x y)
-
 -- ---- any
-
-pub any_start : (f : ℕ → Bool) → any_below 0 f ≡ false
-unfolding any_below
-any_start f = refl
-
-pub any_more : (n : ℕ) (f : ℕ → Bool) → any_below (n + 1) f ≡ (any_below n f || f n)
-unfolding any_below
-any_more n f = ap (λ m. any_below m f) (add-one n)
 
 pub any_from : (n : ℕ) (f : ℕ → Bool) (x : ℕ) → x < n → f x ≡ true → any_below n f ≡ true
 unfolding any_below
@@ -109,7 +84,7 @@ pub meet_comm : (f g : ℕ → Bool) → meet f g ≡ meet g f
 meet_comm f g = ap any (both_comm f g)
 
 pub none_meets : (g : ℕ → Bool) → meet none g ≡ false
-none_meets g = any_not 64 (both none g) (λ x h. both_at none g x ∙ and_left _ _ (none_at x))
+none_meets g = any_not 64 (both none g) (λ x h. refl)
 
 -- true exactly where some slot is in both
 pub meet_decides : (f g : ℕ → Bool) → Decides (meet f g) (Meeting f g)
@@ -181,15 +156,6 @@ lowest_least f x e = let s = least_some 64 f x e in record { inside = s.0; membe
 
 -- ---- how many
 
--- a loop over the slots from 0 on
-pub tally_start : (f : ℕ → Bool) → tally_below 0 f ≡ 0
-unfolding tally_below
-tally_start f = refl
-
-pub tally_more : (n : ℕ) (f : ℕ → Bool) → tally_below (n + 1) f ≡ tally_below n f + cond (f n) 1 0
-unfolding tally_below
-tally_more n f = ap (λ m. tally_below m f) (add-one n)
-
 -- two sets alike below n have as many numbers below it
 pub tally_same : (n : ℕ) (f g : ℕ → Bool) → ((x : ℕ) → x < n → f x ≡ g x) → tally_below n f ≡ tally_below n g
 unfolding tally_below
@@ -220,6 +186,6 @@ pub tally_removed : (f : ℕ → Bool) (x : ℕ) → Lowest f x → tally (remov
 tally_removed f x l = tally_less 64 f (removed f x) x l.inside l.member (removed_same f x l.inside) (removed_other f x)
 
 pub tally_none : (n : ℕ) → tally_below n none ≡ 0
-unfolding tally_below none
+unfolding tally_below
 tally_none zero = refl
 tally_none (suc n) = ap (λ k. k + 0) (tally_none n)

@@ -7,10 +7,10 @@ use lib.Count.{ones, count_trailing_zeros}
 use Rattle.std.proofs.lemmas.Nat.{one_shl}
 use Rattle.std.proofs.lemmas.Bool.{lt-ltb, and_left, eqb-true, eq-eqb, cases_lt}
 use Rattle.slots.specs.declared.SlotSet.{SlotSet}
-use Rattle.slots.specs.Sets.{none, alone, either, both, without, tally, least, meet, Lowest}
+use Rattle.slots.specs.Sets.{none, alone, either, both, without, any, tally, least, meet, Lowest}
 use Rattle.slots.specs.Meaning.{bit, has}
-use Rattle.slots.proofs.Sets.{none_at, alone_at, either_at, both_at, without_at, alone_other, least_lowest, tally_same}
-use Rattle.slots.proofs.Members.{has_outside, none_from, meet_alone, fewer_removed}
+use Rattle.slots.proofs.Sets.{none_at, either_at, both_at, without_at, alone_other, least_lowest, tally_same}
+use Rattle.slots.proofs.Members.{has_outside, none_from, meet_alone, fewer_removed, empty_any}
 use Rattle.slots.proofs.Words.{bit_at_or, bit_at_and, bit_not, bit_zero, bit_one, same_bits, trailing_below, trailing_at, tally_ones}
 
 -- below 64 a set has what its word has
@@ -30,7 +30,7 @@ pub has_alone : (s : SlotSet) (x : ℕ) → x < 64 → s.bits ≡ (1 * 2 ^ x) % 
 has_alone s x h e =
     let one : s.bits ≡ 2 ^ x = e ∙ one_shl x 64 h in
     has_from s (alone x)
-    (λ y l. ap (λ w. bit w y) one ∙ bit_one x y ∙ sym (alone_at x y ∙ ap (λ b. eqb y x && b) (lt-ltb x 64 h) ∙ and-true (eqb y x)))
+    (λ y l. ap (λ w. bit w y) one ∙ bit_one x y ∙ sym (ap (λ b. eqb y x && b) (lt-ltb x 64 h) ∙ and-true (eqb y x)))
     (λ y l. alone_other x y (λ same. omega arith))
 
 pub has_either : (a b : SlotSet) → has (record { bits = bit_or a.bits b.bits }) ≡ either (has a) (has b)
@@ -68,6 +68,9 @@ empty_decides s p = (
   λ e. has_none s (eqb-true s.bits 0 e),
   λ e. eq-eqb s.bits 0 (same_set s (record { bits = 0 }) p (omega arith) (e ∙ sym (has_none (record { bits = 0 }) refl))),
 )
+
+pub empty_is : (s : SlotSet) → s.bits < 2 ^ 64 → eqb s.bits 0 ≡ not (any (has s))
+empty_is s p = empty_any s (eqb s.bits 0) (empty_decides s p)
 
 pub lowest_some : (s : SlotSet) → count_trailing_zeros 64 s.bits < 64 → Lowest (has s) (count_trailing_zeros 64 s.bits)
 lowest_some s h = record {

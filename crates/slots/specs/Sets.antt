@@ -2,23 +2,23 @@
 use Rattle.std.specs.Prelude.{◌≡◌, ℕ, zero, suc, ◌+◌, ◌<◌, Bool, true, false, cond, not, ◌&&◌, ◌||◌, Some, None, Option, ◌==◌, nat_lt}
 
 -- no slot
-unfoldable pub none : ℕ → Bool
+abbrev pub none : ℕ → Bool
 none y = false
 
 -- the slot x alone; nothing, where x is no slot
-unfoldable pub alone : ℕ → ℕ → Bool
+abbrev pub alone : ℕ → ℕ → Bool
 alone x y = y == x && nat_lt x 64
 
 -- what is in f or in g
-unfoldable pub either : (ℕ → Bool) → (ℕ → Bool) → ℕ → Bool
+abbrev pub either : (ℕ → Bool) → (ℕ → Bool) → ℕ → Bool
 either f g y = f y || g y
 
 -- what is in f and in g
-unfoldable pub both : (ℕ → Bool) → (ℕ → Bool) → ℕ → Bool
+abbrev pub both : (ℕ → Bool) → (ℕ → Bool) → ℕ → Bool
 both f g y = f y && g y
 
 -- what is in f and not in g
-unfoldable pub without : (ℕ → Bool) → (ℕ → Bool) → ℕ → Bool
+abbrev pub without : (ℕ → Bool) → (ℕ → Bool) → ℕ → Bool
 without f g y = f y && not (g y)
 
 -- f and the slot x

@@ -13,9 +13,14 @@ ghost use Rattle.std.specs.Cmp.Rules.{comparing};
 ghost use Rattle.std.proofs.Common.{rules};
 ghost use Rattle.std.specs.Cmp as Keys;
 
+mod iter;
+
+pub use iter::Slots;
+
 // The numbers below this are the slots.
 pub const SLOTS: u32 = 64;
 
+// No `impl Model`: a set means a function of the slot, and the value of a model has to be data.
 #[derive(Clone, Copy)]
 pub struct SlotSet {
     // bit x stands for slot x
@@ -24,6 +29,7 @@ pub struct SlotSet {
 
 impl SlotSet {
     // No slot.
+    #[tactic(auto, using(crate::proofs::WordSets::has_none))]
     pub fn new() -> SlotSet
         ensures { has result ≡ none }
     {
@@ -51,6 +57,7 @@ impl SlotSet {
     }
 
     // Whether some slot is in both.
+    #[tactic(auto, using(crate::proofs::Sets::meet_decides))]
     pub fn meets(self, other: SlotSet) -> bool
         ensures value { result ≡ meet (has self) (has other) }
         ensures cases { Decides result (Meeting (has self) (has other)) }
@@ -58,15 +65,17 @@ impl SlotSet {
         !self.intersection(other).is_empty()
     }
 
+    #[tactic(auto, using(crate::proofs::Sets::least_none, crate::proofs::WordSets::lowest_some, crate::proofs::WordSets::lowest_some_is, crate::proofs::WordSets::lowest_none))]
     pub fn lowest(self) -> Option<u32>
         ensures value { result ≡ least (has self) }
         ensures cases { MatchOption result (has self ≡ none) (λ x. Lowest (has self) x) }
     {
         let slot = self.bits.trailing_zeros();
-        if slot < SLOTS { Some(slot) } else { None }
+        (slot < SLOTS).then_some(slot)
     }
 
     // How many slots are in the set.
+    #[tactic(auto, using(crate::proofs::WordSets::tally_word))]
     pub fn len(self) -> u32
         ensures value { result ≡ tally (has self) }
         ensures bound { result ≤ 64 }
@@ -74,6 +83,7 @@ impl SlotSet {
         self.bits.count_ones()
     }
 
+    #[tactic(auto, using(crate::proofs::WordSets::empty_is, crate::proofs::WordSets::empty_decides))]
     pub fn is_empty(self) -> bool
         ensures value { result ≡ not (any (has self)) }
         ensures cases { Decides result (has self ≡ none) }
@@ -81,6 +91,7 @@ impl SlotSet {
         self.bits == 0
     }
 
+    #[tactic(auto, using(crate::proofs::WordSets::has_either))]
     pub fn union(self, other: SlotSet) -> SlotSet
         ensures { has result ≡ either (has self) (has other) }
     {
@@ -89,6 +100,7 @@ impl SlotSet {
         }
     }
 
+    #[tactic(auto, using(crate::proofs::WordSets::has_both))]
     pub fn intersection(self, other: SlotSet) -> SlotSet
         ensures { has result ≡ both (has self) (has other) }
     {
@@ -98,6 +110,7 @@ impl SlotSet {
     }
 
     // The slots that are in this set and not in the other.
+    #[tactic(auto, using(crate::proofs::WordSets::has_without))]
     pub fn difference(self, other: SlotSet) -> SlotSet
         ensures { has result ≡ without (has self) (has other) }
     {
@@ -107,6 +120,7 @@ impl SlotSet {
     }
 
     // The slot alone. A set meets it where it has the slot, and is one smaller without it; what is no slot is in no set.
+    #[tactic(auto, using(crate::proofs::Sets::alone_outside, crate::proofs::Members::has_outside, crate::proofs::WordSets::has_alone, crate::proofs::WordSets::meet_only, crate::proofs::WordSets::fewer_only))]
     fn only(slot: u32) -> SlotSet
         ensures value { has result ≡ alone slot }
         ensures meets { (s : SlotSet) → meet (has s) (has result) ≡ has s slot }
@@ -120,11 +134,13 @@ impl SlotSet {
     }
 }
 
+// By hand, since a derived `==` would not say that it decides whether two sets mean the same.
 impl PartialEq for SlotSet {
     ghost eq = { on (λ v. v.bits) nat_eq };
 
     ghost laws = { Keys.partial_equiv_from_equiv (Prim.search (comparing, rules)) };
 
+    #[tactic(auto, using(crate::proofs::WordSets::equal_decides))]
     fn eq(&self, other: &SlotSet) -> bool
         ensures words { result ≡ nat_eq self.now.bits other.now.bits }
         ensures sets { Decides result (has self.now ≡ has other.now) }

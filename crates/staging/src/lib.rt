@@ -4,6 +4,7 @@
 #![tactic(auto)]
 
 ghost use Rattle.std.specs.Prelude.{◌≡◌, length};
+ghost use Rattle.std.specs.Result.{result_err};
 ghost use Rattle.session.specs.Views as seen;
 ghost use Rattle.calls.specs.Checks.{refused_get};
 ghost use Rattle.calls.specs.Effects.{puts};
@@ -13,19 +14,16 @@ use refusal::Refusal;
 use session::Record;
 use store::{Reading, Storing};
 
-// Why the rule staged for a slot, if there is one, cannot be put.
-fn slot_cause<S: Reading>(store: &mut S, own: &Record, slot: u32) -> Option<Refusal>
-    ensures value { S.Reading.sound store.old → result ≡ slot_cause (seen.view own.now).work.staged (S.Reading.entries store.old) slot }
+// Whether the rule staged for a slot, if there is one, can be put.
+fn check_put<S: Reading>(store: &mut S, own: &Record, slot: u32) -> Result<(), Refusal>
+    ensures value { S.Reading.sound store.old → result_err result ≡ slot_cause (seen.view own.now).work.staged (S.Reading.entries store.old) slot }
     ensures same { S.Reading.entries store.new ≡ S.Reading.entries store.old }
     ensures sound { S.Reading.sound store.old → S.Reading.sound store.new }
 {
-    let Some(_) = own.staged(slot) else {
-        return None;
-    };
-    match store.get(slot) {
-        Ok(_) => None,
-        Err(cause) => Some(cause),
+    if own.staged(slot).is_some() {
+        store.get(slot)?;
     }
+    Ok(())
 }
 
 // Puts the rule staged for a slot, if there is one.
@@ -33,24 +31,23 @@ fn put_slot<S: Storing>(store: &mut S, own: &Record, slot: u32)
     ensures after { S.Reading.sound store.old → S.Reading.entries store.new ≡ slot_put (seen.view own.now).work.staged (S.Reading.entries store.old) slot }
     ensures sound { S.Reading.sound store.old → S.Reading.sound store.new }
 {
-    let Some(rule) = own.staged(slot) else {
-        return;
-    };
-    let _ = store.put(slot, rule);
+    if let Some(rule) = own.staged(slot) {
+        // not refused where every slot was tried before
+        let _ = store.put(slot, rule);
+    }
 }
 
-// Why a staged rule cannot be put.
-pub fn staged_cause<S: Reading>(store: &mut S, own: &Record) -> Option<Refusal>
-    ensures value { S.Reading.sound store.old → result ≡ refused_get (length (S.Reading.entries store.old)) (seen.view own.now).work.staged (S.Reading.entries store.old) }
+// Whether every staged rule can be put.
+#[tactic(auto, using(crate::proofs::Stagings::refused_stop))]
+pub fn check_staged<S: Reading>(store: &mut S, own: &Record) -> Result<(), Refusal>
+    ensures value { S.Reading.sound store.old → result_err result ≡ refused_get (length (S.Reading.entries store.old)) (seen.view own.now).work.staged (S.Reading.entries store.old) }
     ensures same { S.Reading.entries store.new ≡ S.Reading.entries store.old }
     ensures sound { S.Reading.sound store.old → S.Reading.sound store.new }
 {
     for slot in 0..store.count() {
-        if let Some(cause) = slot_cause(store, own, slot) {
-            return Some(cause);
-        }
+        check_put(store, own, slot)?;
     }
-    None
+    Ok(())
 }
 
 // Puts every staged rule.

@@ -1,15 +1,14 @@
 -- The text of a stamp reads as that stamp, and no other text does; it is short and holds no space. Assumes nothing.
-use Rattle.std.specs.Prelude.{◌≡◌, ℕ, ◌^◌, ◌<◌, ◌≤◌, Bool, true, false, ◌&&◌, ltb, List, ◌∷◌, ◌++◌, length, Some, decimal, Option, ◌≢◌, nat_lt, refl}
+use Rattle.std.specs.Prelude.{◌≡◌, ℕ, ◌^◌, ◌<◌, ◌≤◌, Bool, true, false, ◌&&◌, ltb, List, ◌∷◌, ◌++◌, length, Some, decimal, Option, nat_lt, refl}
 use Rattle.std.proofs.Common.{sym, ap, ◌∙◌, arith, length-append}
 use mathlib.Core.HLevel.{is_prop→PathP}
 use Rattle.std.proofs.Math.Bridge.{le_prop}
 use Rattle.std.proofs.lemmas.Fmt.{length-decimal-le}
-use Rattle.std.proofs.ByRecursion.{All-append}
 use Rattle.std.proofs.lemmas.Bool.{and_from, and_parts, lt-ltb, ltb-true}
 use Rattle.text.specs.Cutting.{split}
 use Rattle.text.specs.Numbers.{number_of}
 use Rattle.text.proofs.Cuts.{Lacks, split_at, split_cuts}
-use Rattle.text.proofs.Decimal.{number_decimal, decimal_number, lacks_decimal}
+use Rattle.text.proofs.Decimal.{number_decimal, decimal_number, lacks_decimal, lacks_between}
 use Rattle.text.proofs.Options.{then_parts}
 use Rattle.stamp.specs.declared.clock.ClockStamp.{ClockStamp}
 use Rattle.stamp.specs.declared.ticket.Ticket.{Ticket}
@@ -35,7 +34,7 @@ clock_made : (t s : ℕ) (b : Bool) (e : (nat_lt t (2 ^ 64) && nat_lt s (2 ^ 16)
 clock_made t s true e x et es = ap Some (same_clock _ x (sym et) (sym es))
 clock_made t s false e x et es =
     let z : (nat_lt x.time (2 ^ 64) && nat_lt x.station (2 ^ 16)) ≡ true = and_from _ _ (lt-ltb _ _ x.wide) (lt-ltb _ _ x.near) in
-    absurd (let w : ◌≡◌ {A = ℕ} 0 1 = cc in omega arith)
+    absurd (grind arith)
 
 make_clock : (x : ClockStamp) → clock_with x.time x.station ≡ Some x
 unfolding clock_with
@@ -59,7 +58,7 @@ ticket_made : (n : ℕ) (b : Bool) (e : ltb n (2 ^ 32) ≡ b) (x : Ticket) → x
 ticket_made n true e x en = ap Some (same_ticket _ x (sym en))
 ticket_made n false e x en =
     let z : ltb x.number (2 ^ 32) ≡ true = lt-ltb _ _ x.wide in
-    absurd (let w : ◌≡◌ {A = ℕ} 0 1 = cc in omega arith)
+    absurd (grind arith)
 
 make_ticket : (x : Ticket) → ticket_with x.number ≡ Some x
 unfolding ticket_with
@@ -99,7 +98,7 @@ clock_one_text bs x e =
 
 pub clock_no_space : (x : ClockStamp) → Lacks 32 (clock_text x)
 clock_no_space x =
-    All-append (λ b. b ≢ 32) (decimal x.time) (46 ∷ decimal x.station) (lacks_decimal 32 x.time x.wide (λ d. omega arith)) (λ d. omega arith, lacks_decimal 32 x.station (omega (arith, x.near)) (λ d. omega arith))
+    lacks_between 32 46 x.time (decimal x.station) x.wide (λ d. omega arith) (λ d. omega arith) (lacks_decimal 32 x.station (omega (arith, x.near)) (λ d. omega arith))
 
 pub clock_short : (x : ClockStamp) → length (clock_text x) ≤ 40
 clock_short x =

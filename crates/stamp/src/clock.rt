@@ -3,7 +3,7 @@ mod kind;
 
 ghost use Rattle.std.specs.Prelude.{◌^◌, ◌<◌};
 
-#[derive(Clone, Copy)]
+#[derive(Clone, Copy, Debug, PartialEq, Eq, PartialOrd, Ord)]
 pub struct ClockStamp {
     pub time: u64,
     pub station: u16,

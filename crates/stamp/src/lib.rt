@@ -17,7 +17,7 @@ use std::fmt::Display;
 pub use ticket::Ticket;
 
 // The place of a stamp in the order.
-#[derive(Clone, Copy, PartialEq, Eq)]
+#[derive(Clone, Copy, PartialEq, Eq, PartialOrd, Ord)]
 pub struct Key {
     pub first: u64,
     pub second: u64,
@@ -30,7 +30,7 @@ impl Key {
         ensures value { result ≡ key_before self other }
         ensures total { result ≡ false → key_before other self ≡ false → self ≡ other }
     {
-        self.first < other.first || self.first == other.first && self.second < other.second
+        self < other
     }
 }
 

@@ -1,5 +1,5 @@
 -- The entries of a table, by its rows. Assumes nothing.
-use Rattle.std.specs.Prelude.{◌≡◌, ℕ, ◌<◌, ◌≤◌, true, false, List, [], map, length, set, slice_index_or, slice_set, refl}
+use Rattle.std.specs.Prelude.{◌≡◌, ℕ, ◌<◌, ◌≤◌, true, false, List, [], map, length, set, Ok, slice_index_or, slice_set, refl}
 use Rattle.std.proofs.Common.{sym, ap, ◌∙◌, ⊎_elim, arith, length-set}
 use Rattle.std.proofs.lemmas.Bool.{cond-true, cond-false, cond_both, cases_Bool, and_parts, leb-true}
 use Rattle.std.proofs.lemmas.List.{get_or-map, map-set, length-map}
@@ -8,9 +8,9 @@ use Rattle.rule.specs.declared.Rule.{Rule}
 use Rattle.rule.specs.Making.{parts_of}
 use Rattle.rule.proofs.Rules.{make_parts}
 use Rattle.store.specs.declared.Entry.TheVariants.{Intact}
-use Rattle.store.specs.Entries.{answer, got}
+use Rattle.store.specs.Entries.{answer, got, put_into}
 use Rattle.store.specs.Table.{right_size, entry_of, row_entry, table_entries}
-use Rattle.store.specs.Slots.{got_inside}
+use Rattle.store.specs.Slots.{got_inside, inside_from_got, put_where_got}
 
 pub counted : (rows : List Parts) → right_size (length rows) ≡ true → table_entries rows ≡ map row_entry rows
 counted rows size = cond-true (right_size (length rows)) (map row_entry rows) [] size
@@ -43,3 +43,7 @@ set_row rows x r lt =
     ∙ map-set row_entry rows x (parts_of r)
     ∙ ap (λ e. set (map row_entry rows) x e) (ap entry_of (make_parts r (parts_of r) refl))
     ∙ ap (λ l. set l x (Intact r)) (sym (counted rows size))
+
+-- where `get` gives a rule, such a row is what `put` comes to
+pub put_entries : (rows : List Parts) (x : ℕ) (r q : Rule) → got (table_entries rows) x ≡ Ok q → table_entries (slice_set rows x (parts_of r)) ≡ put_into (table_entries rows) x r
+put_entries rows x r q e = set_row rows x r (inside_from_got _ x q e) ∙ sym (put_where_got _ x r q e)

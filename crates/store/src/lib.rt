@@ -13,8 +13,8 @@ ghost use Rattle.store.specs.Entries.{answer, got, done, put_into};
 use refusal::{Damage, Refusal};
 use rule::Rule;
 
-// What a slot holds.
-#[derive(Clone, Copy)]
+// What a slot holds. Not a `Result`: a damage is no failure here, but what lies in the slot, and the definitions name both cases by these words.
+#[derive(Clone, Copy, Debug, PartialEq, Eq)]
 pub enum Entry {
     Intact(Rule),
     Broken(Damage),

@@ -15,17 +15,18 @@ pub fn check(rows: &[Parts]) -> Result<(), Refusal>
     ensures value { result ≡ checked (length rows.now) }
     ensures ok { OnOk result ((length rows.now ≤ 64) × (right_size (length rows.now) ≡ true)) }
 {
-    if rows.len() == 0 || rows.len() > MOST {
-        return Err(Refusal::WrongSize);
+    if (1..=MOST).contains(&rows.len()) {
+        Ok(())
+    } else {
+        Err(Refusal::WrongSize)
     }
-    Ok(())
 }
 
 // What a row means.
 fn entry_of(row: Parts) -> Entry
     ensures { result ≡ row_entry row }
 {
-    match Rule::from_parts(row) {
+    match Rule::try_from(row) {
         Ok(rule) => Entry::Intact(rule),
         Err(_) => Entry::Broken(Damage {
             fault: Fault::Record,
@@ -50,35 +51,13 @@ impl TableStore {
     pub fn rows(&self) -> &[Parts]
         ensures { result.now ≡ self.now.rows.items }
     {
-        let all = self.rows.as_slice();
-        all
+        &self.rows
     }
 
     pub fn into_rows(self) -> Vec<Parts>
         ensures { result ≡ self.rows }
     {
-        let TableStore { rows: memory } = self;
-        memory
-    }
-
-    // How many rows count: none, where the check refuses them.
-    fn slots(&self) -> u32
-        ensures { result ≡ length (table_entries self.now.rows.items) }
-    {
-        match check(self.rows.as_slice()) {
-            Ok(()) => self.rows.len() as u32,
-            Err(_) => 0,
-        }
-    }
-
-    // The rule in a slot, or why there is none.
-    fn rule_at(&self, slot: u32) -> Result<Rule, Refusal>
-        ensures { result ≡ got (table_entries self.now.rows.items) slot }
-    {
-        if slot >= self.slots() {
-            return Err(Refusal::SlotOutsideStore { slot });
-        }
-        entry_of(self.rows[slot as usize]).rule()
+        self.rows
     }
 }
 
@@ -90,7 +69,10 @@ impl Reading for TableStore {
     ghost few = { λ s. few_rows s.rows.items };
 
     fn count(&self) -> u32 {
-        self.slots()
+        match check(&self.rows) {
+            Ok(()) => self.rows.len() as u32,
+            Err(_) => 0,
+        }
     }
 
     fn get(&mut self, slot: u32) -> Result<Rule, Refusal>
@@ -99,19 +81,23 @@ impl Reading for TableStore {
         ensures value { Unit {0} → result ≡ got (table_entries self.old.rows.items) slot }
         ensures memory { self.new ≡ self.old }
     {
-        self.rule_at(slot)
+        if slot >= self.count() {
+            return Err(Refusal::SlotOutsideStore { slot });
+        }
+        entry_of(self.rows[slot as usize]).rule()
     }
 }
 
 impl Storing for TableStore {
+    #[tactic(auto, using(crate::specs::Tables::put_entries))]
     fn put(&mut self, slot: u32, rule: Rule) -> Result<(), Refusal>
         ensures stays_sound { Unit {0} → Unit {0} }
         ensures value { Unit {0} → result ≡ done (got (table_entries self.old.rows.items) slot) }
         ensures after { Unit {0} → table_entries self.new.rows.items ≡ put_into (table_entries self.old.rows.items) slot rule }
         ensures memory { self.new.rows.items ≡ put_row self.old.rows.items slot rule }
     {
-        self.rule_at(slot)?;
-        self.rows[slot as usize] = rule.parts();
+        self.get(slot)?;
+        self.rows[slot as usize] = Parts::from(rule);
         Ok(())
     }
 }

@@ -1,12 +1,11 @@
 -- What a table over slots means. Assumes nothing.
 use Rattle.std.specs.Prelude.{ℕ, Bool, cond, ◌&&◌, is_some, Some, None, Option, nat_lt, slice_index_or}
 use Rattle.std.specs.Option.{option_or}
-use Rattle.slots.specs.Meaning.{has}
 use Rattle.tables.specs.declared.SlotMap.{SlotMap}
 
 -- the value for a number, if there is one
 unfoldable pub at : {X : Type 0} → SlotMap X → ℕ → Option X
-at m x = cond (has m.slots x) (Some (slice_index_or m.values x m.blank)) None
+at m x = cond (nat_lt x 64) (slice_index_or m.values x None) None
 
 -- what is done where a number is below a bound; where it is not, nothing is
 abbrev pub below : {X : Type 0} → ℕ → ℕ → (X → X) → X → X
@@ -19,6 +18,10 @@ filled f x = is_some (f x)
 -- the numbers that are in both of two sets
 abbrev pub shared : (ℕ → Bool) → (ℕ → Bool) → ℕ → Bool
 shared f g x = f x && g x
+
+-- on the numbers of a set the one value, or none
+abbrev pub replaced : {X : Type 0} → (ℕ → Bool) → Option X → (ℕ → Option X) → ℕ → Option X
+replaced s o f x = cond (s x) o (f x)
 
 -- a value on the numbers of a set
 abbrev pub marked : {X : Type 0} → (ℕ → Bool) → X → (ℕ → Option X) → ℕ → Option X

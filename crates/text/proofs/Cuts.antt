@@ -1,9 +1,8 @@
 -- Where `split` cuts. Assumes nothing.
-use Rattle.std.proofs.Common.{◌≡◌, ℕ, ◌+◌, ◌-◌, ◌<◌, Bool, true, false, cond, eqb, List, [], ◌∷◌, ◌++◌, length, get_or, take, drop, Some, None, Option, sym, refl, ap, ◌∙◌, subst, arith, take-append-drop}
-use native.Mathlib.Nat.{sub-zero}
-use Rattle.std.proofs.lemmas.List.{drop_more, take_rest}
+use Rattle.std.proofs.Common.{◌≡◌, ℕ, suc, ◌+◌, ◌<◌, Bool, true, false, cond, not, eqb, ltb, List, [], ◌∷◌, ◌++◌, length, get_or, take, drop, Some, None, Option, refl, ap, ◌∙◌, subst, arith}
 use Rattle.std.specs.Option.{option_map}
-use Rattle.std.specs.List.{AllByRecursion}
+use Rattle.std.specs.List.{AllByRecursion, position_or_len}
+use Rattle.std.proofs.lemmas.Bool.Decides.{nat_tests}
 use Rattle.std.proofs.lemmas.Bool.{eqb-true, eqb-false, eq-eqb, ne_eqb}
 use Rattle.text.specs.Cutting.{split}
 
@@ -11,9 +10,13 @@ use Rattle.text.specs.Cutting.{split}
 abbrev pub Lacks : ℕ → List ℕ → Type 0
 Lacks c bs = AllByRecursion (λ b. b ≡ c → ⊥) bs
 
-pub split_none : (c : ℕ) (bs : List ℕ) → Lacks c bs → split c bs ≡ None
-split_none c [] h = refl
-split_none c (b ∷ bs) h = rw (ne_eqb b c h.0, split_none c bs h.1)
+pub lacks_from : (c : ℕ) (bs : List ℕ) → ((i : ℕ) → i < length bs → get_or bs i 0 ≡ c → ⊥) → Lacks c bs
+lacks_from c [] h = tt
+lacks_from c (b ∷ bs) h = (h 0 (omega arith), lacks_from c bs (λ i lt. h (suc i) (omega arith)))
+
+pub lacks_append : (c : ℕ) (xs ys : List ℕ) → Lacks c xs → Lacks c ys → Lacks c (xs ++ ys)
+lacks_append c [] ys h k = k
+lacks_append c (x ∷ xs) ys h k = (h.0, lacks_append c xs ys h.1 k)
 
 -- the first c is behind a text that lacks it
 pub split_at : (c : ℕ) (xs ys : List ℕ) → Lacks c xs → split c (xs ++ c ∷ ys) ≡ Some (xs, ys)
@@ -50,8 +53,18 @@ pub split_lacks : (c : ℕ) (bs : List ℕ) → split c bs ≡ None → Lacks c 
 split_lacks c [] h = tt
 split_lacks c (b ∷ bs) h = lacks_by c b bs (eqb b c) refl (split c bs) (split_lacks c bs) h
 
--- the first c is at i, with the parts as the checker reads `&bs[0..i]` and `&bs[i + 1..]`
-pub split_first : (c : ℕ) (bs : List ℕ) (i : ℕ) → i < length bs → get_or bs i 0 ≡ c → Lacks c (take i bs) → Some (take (i - 0) bs, take (length bs - (i + 1)) (drop (i + 1) bs)) ≡ split c bs
-split_first c bs i h e none =
-    let whole : bs ≡ take i bs ++ c ∷ drop (i + 1) bs = sym (take-append-drop i bs) ∙ ap (λ l. take i bs ++ l) (drop_more bs i 0 h ∙ ap (λ b. b ∷ drop (i + 1) bs) e) in
-    rw (sub-zero, take_rest) (sym (ap (split c) whole ∙ split_at c (take i bs) (drop (i + 1) bs) none))
+-- the text cut at the byte at i, if there is one
+abbrev cut : List ℕ → ℕ → Option (List ℕ × List ℕ)
+cut bs i = cond (ltb i (length bs)) (Some (take i bs, drop (i + 1) bs)) None
+
+cut_on : (b : ℕ) (bs : List ℕ) (i : ℕ) → option_map (λ p. (b ∷ p.0, p.1)) (cut bs i) ≡ cut (b ∷ bs) (1 + i)
+cut_on b bs i = grind (arith, nat_tests)
+
+split_by : (b : ℕ) (bs : List ℕ) (t : Bool) (i : ℕ) (o : Option (List ℕ × List ℕ)) → o ≡ cut bs i → cond t (Some ([], bs)) (option_map (λ p. (b ∷ p.0, p.1)) o) ≡ cut (b ∷ bs) (cond (not t) (1 + i) 0)
+split_by b bs true i o e = grind (arith, nat_tests)
+split_by b bs false i o e = ap (option_map (λ p. (b ∷ p.0, p.1))) e ∙ cut_on b bs i
+
+-- `split` cuts where the first c is
+pub split_first : (c : ℕ) (bs : List ℕ) → split c bs ≡ cut bs (position_or_len (λ b. eqb b c) bs)
+split_first c [] = refl
+split_first c (b ∷ bs) = split_by b bs (eqb b c) (position_or_len (λ b. eqb b c) bs) (split c bs) (split_first c bs)

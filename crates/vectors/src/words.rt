@@ -1,30 +1,45 @@
-// The words of a command.
+// The words of a command, and of an answer.
+use crate::answers::Trouble;
 use rule::Parts;
+use std::alloc::{AllocError, Global};
 
-// The number at a place, 0 where there is none.
-pub(crate) fn number(words: &[&str], at: usize) -> u32 {
-    match words.get(at) {
-        Some(word) => word.parse::<u32>().unwrap_or(0),
-        None => 0,
+// A word that stands for no bytes at all.
+const NOTHING: &str = "-";
+
+pub(crate) fn number(word: &str) -> Result<u32, Trouble> {
+    Ok(word.parse::<u32>()?)
+}
+
+// The five parts of a rule. A number that is too large for its part becomes the largest one.
+pub(crate) fn parts(words: &[&str]) -> Result<Parts, Trouble> {
+    let [address, prefix, action, first, last] = words else {
+        return Err(Trouble::NoCommand);
+    };
+    Ok(Parts {
+        address: number(address)?,
+        prefix: u8::try_from(number(prefix)?).unwrap_or(u8::MAX),
+        action: u8::try_from(number(action)?).unwrap_or(u8::MAX),
+        first: u16::try_from(number(first)?).unwrap_or(u16::MAX),
+        last: u16::try_from(number(last)?).unwrap_or(u16::MAX),
+    })
+}
+
+// The bytes that the digits of a word spell.
+pub(crate) fn bytes(heap: Global, word: &str) -> Result<Vec<u8>, Trouble> {
+    if word == NOTHING {
+        return Ok(Vec::new(heap));
     }
+    Ok(hex::decode(heap, word)?)
 }
 
-fn byte(words: &[&str], at: usize) -> u8 {
-    u8::try_from(number(words, at)).unwrap_or(255)
-}
-
-fn port(words: &[&str], at: usize) -> u16 {
-    u16::try_from(number(words, at)).unwrap_or(65535)
-}
-
-// The five parts of a rule, from a place on.
-pub(crate) fn parts(words: &[&str], from: usize) -> Parts {
-    let at = from.min(1000);
-    Parts {
-        address: number(words, at),
-        prefix: byte(words, at + 1),
-        action: byte(words, at + 2),
-        first: port(words, at + 3),
-        last: port(words, at + 4),
+// The bytes as digits, without the zero bytes at the end.
+pub(crate) fn digits(heap: Global, bytes: &[u8]) -> Result<String, AllocError> {
+    let end = bytes
+        .iter()
+        .rposition(|byte| *byte != 0)
+        .map_or(0, |last| last + 1);
+    if end == 0 {
+        return String::from_str(heap, NOTHING);
     }
+    hex::encode(heap, &bytes[..end])
 }

@@ -10,12 +10,8 @@ use Rattle.calls.proofs.Invariant.{Inv}
 
 pub pause_ok : (first : List Entry) (b : State) (a : Account Rule) → Inv first b a → Inv first b (then passes a)
 pause_ok first b a inv = record {
-  size = inv.size;
-  chain = inv.chain;
-  right = inv.right;
-  holds = inv.holds;
+  settled = inv.settled;
   changes = inv.changes;
-  known = inv.known;
   desks = inv.desks;
   works = inv.works;
   places = places_kept passes a inv.places;

@@ -1,5 +1,5 @@
 -- A write keeps the invariant. Assumes nothing.
-use Rattle.std.proofs.Common.{◌≡◌, ℕ, true, cond, eqb, List, length, is_some, Some, None, Option, sym, refl, ap, ◌∙◌}
+use Rattle.std.proofs.Common.{◌≡◌, ℕ, true, cond, eqb, List, length, is_some, Some, None, Option, sym, ap, ◌∙◌, arith}
 use Rattle.std.specs.Option.{option_map}
 use Rattle.std.proofs.lemmas.Bool.{not-false}
 use Rattle.rule.specs.declared.Rule.{Rule}
@@ -10,35 +10,26 @@ use Rattle.law.specs.Accounts.{Account, with_operation, writes}
 use Rattle.law.specs.Accounts.{after as then}
 use Rattle.law.proofs.Places.{places_kept}
 use Rattle.calls.specs.State.{opened, State, held}
-use Rattle.calls.proofs.Tools.{by_number, changed_keeps, clear_head, when_none}
+use Rattle.calls.proofs.Tools.{by_number, changed_keeps, cleared, when_none}
 use Rattle.calls.proofs.Invariant.{DeskIn, Inv}
-use Rattle.refusal.specs.declared.Refusal.TheVariants.{WrongPhase, NotHeld, NotRead}
 use Rattle.calls.specs.Words.{write}
-use Rattle.calls.specs.Checks.{first_cause, checks, no_session, no_slot, wrong_phase, is_opened, not_held, not_read, desk_of, work_of}
+use Rattle.calls.specs.Checks.{first_cause, checks, desk_of, work_of}
 use Rattle.calls.specs.Effects.{effect, having_written}
-use Rattle.calls.proofs.kept.Phases.{one_open, others_stay, opened_is, opened_pending, in_phase}
+use Rattle.calls.proofs.kept.Phases.{one_open, changes_kept, opened_is, in_phase}
 
 pub write_ok : (first : List Entry) (b : State) (a : Account Rule) (s x : ℕ) (r : Rule) → Inv first b a → first_cause (checks b (write s x r)) ≡ None
     → Inv first (effect b (write s x r)) (then (writes s x r) a)
 write_ok first b a s x r inv clear =
-    let c1 = clear_head (no_session s) _ clear in
-    let c2 = clear_head (no_slot b x) _ c1.1 in
-    let c3 = clear_head (wrong_phase is_opened b s) _ c2.1 in
-    let c4 = clear_head (not_held b s x) _ c3.1 in
-    let c5 = clear_head (not_read b s x) None c4.1 in
-    let op : (work_of b s).phase ≡ opened = opened_is _ (when_none _ (WrongPhase s) c3.0) in
-    let has : held (desk_of b s) x ≡ true = not-false _ (when_none _ (NotHeld x) c4.0) in
-    let seen : (work_of b s).read x ≡ true = not-false _ (when_none _ (NotRead x) c5.0) in
+    let passed = cleared (checks b (write s x r)) clear in
+    let op : (work_of b s).phase ≡ opened = opened_is _ (when_none _ _ (passed 2)) in
+    let has : held (desk_of b s) x ≡ true = not-false _ (when_none _ _ (passed 3)) in
+    let seen : (work_of b s).read x ≡ true = not-false _ (when_none _ _ (passed 4)) in
     let old = in_phase opened b a s op (inv.works s) in
     let t = old.0 in
     let ok = old.2 in
     record {
-      size = inv.size;
-      chain = inv.chain;
-      right = inv.right;
-      holds = inv.holds;
-      changes = others_stay (length first) s (having_written x r) b.sessions (opened_pending _ op) a.accepted inv.changes;
-      known = inv.known;
+      settled = inv.settled;
+      changes = changes_kept (length first) s (having_written x r) b.sessions (λ e. cc) a.accepted inv.changes;
       desks = changed_keeps (λ t p. DeskIn first b a t p.desk) s (having_written x r) b.sessions inv.desks (λ ok. ok);
       works =
           one_open b a s (having_written x r) (option_map (with_operation (writing x r))) inv.works op (with_operation (writing x r) t)
@@ -55,5 +46,4 @@ write_ok first b a s x r inv clear =
     }
   where
     as_held : (o : Option Rule) → is_some o ≡ true → is_some (option_map Intact o) ≡ true
-    as_held None e = e
-    as_held (Some q) e = refl
+    as_held o e = grind arith

@@ -5,5 +5,5 @@ use Rattle.image.proofs.open.Goals as goal
 
 pub returns : goal.returns
 returns c =
-    let told = ap image_count (sym c.as_slice.ensures.value) ∙ sym c.in_ok-slots.ensures ∙ ap Ok (sym c.new-store.ensures.count) in
+    let told = ap image_count (sym c.deref.ensures.value) ∙ sym c.in_ok-slots.ensures ∙ ap Ok (sym c.new-store.ensures.count) in
     record { value = search rules; memory = search rules; all_slots = all_slots (vec_items c.args.bytes) c.new-store.result.count told }

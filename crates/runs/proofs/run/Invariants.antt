@@ -5,6 +5,9 @@ use Rattle.runs.proofs.Runnings.{Running}
 use Rattle.runs.proofs.run.Given as goal
 
 abbrev pub invariant-loop-call : goal.invariant-loop-call
-invariant-loop-call g l = (vec_len l.answers ≡ l.call-index) × (length l.calls ≤ vec_capacity l.answers)
-    × (Sound g.S.Reading.entries g.S.Reading.sound l.initial.book → Sound g.S.Reading.entries g.S.Reading.sound l.book
-    × Running (call_view g.K.Stamp.key_of) answer_view l.calls (view g.S.Reading.entries l.initial.book) (view g.S.Reading.entries l.book) l.call-index (vec_items l.answers))
+invariant-loop-call g l = record {
+  len : vec_len l.answers ≡ l.call-index;
+  room : length l.calls ≤ vec_capacity l.answers;
+  sound : Sound g.S.Reading l.initial.book → Sound g.S.Reading l.book;
+  running : Sound g.S.Reading l.initial.book → Running (call_view g.K.Stamp.key_of) answer_view l.calls (view g.S.Reading l.initial.book) (view g.S.Reading l.book) l.call-index (vec_items l.answers);
+}

@@ -41,7 +41,7 @@ impl Stamp for ClockStamp {
     fn read(field: &[u8]) -> Option<ClockStamp> {
         let (time, station) = split_once(field, b'.')?;
         let time = number(time, u64::MAX)?;
-        let station = number(station, 65535)?;
+        let station = number(station, u64::from(u16::MAX))?;
         Some(ClockStamp {
             time,
             station: station as u16,
@@ -53,8 +53,6 @@ impl fmt::Display for ClockStamp {
     ghost output = { λ s. Some (clock_text s) };
 
     fn fmt<W: fmt::Write>(&self, f: &mut fmt::Formatter<W>) -> fmt::Result {
-        let time = self.time;
-        let station = self.station;
-        write!(f, "{time}.{station}")
+        write!(f, "{}.{}", self.time, self.station)
     }
 }

@@ -50,7 +50,6 @@ impl fmt::Display for Ticket {
     ghost output = { λ t. Some (ticket_text t) };
 
     fn fmt<W: fmt::Write>(&self, f: &mut fmt::Formatter<W>) -> fmt::Result {
-        let number = self.number;
-        write!(f, "{number}")
+        write!(f, "{}", self.number)
     }
 }

@@ -1,16 +1,17 @@
-use Rattle.std.proofs.Common.{sym, ap, ◌∙◌, arith}
-use Rattle.block.specs.Layout.{rules_below}
-use Rattle.block.specs.Right.{rules_none, rules_more, rules_not}
+use Rattle.std.proofs.Common.{length, is_some, take, rules, sym, ap, ◌∙◌, arith}
+use Rattle.std.proofs.lemmas.List.{length-take-le}
+use Rattle.std.proofs.lemmas.Iterator.{YieldsList-from_slice}
+use Rattle.std.proofs.lemmas.Iterator.Search.{all_from_yields_List}
+use Rattle.block.specs.Layout.{records_in, rule_in}
+use Rattle.block.proofs.EachRecord.{length_records, records_hold}
 use Rattle.block.proofs.damage.rules_below.Goals as goal
 
-pub loop-i-init : goal.loop-i-init
-loop-i-init c = rules_none _
-
-pub loop-i-preserved : goal.loop-i-preserved
-loop-i-preserved c = rules_more _ _ _ (sym c.rule_at.ensures ∙ c.in-Some.is) c.loop-i.invariant
-
-pub returns-in_default : goal.returns-in_default
-returns-in_default c = sym (rules_not _ _ _ c.loop-i-test.true (sym c.rule_at.ensures ∙ c.in_default.is))
+pub slice_bounds-iter-end : goal.slice_bounds-iter-end
+slice_bounds-iter-end c =
+    sym (length-take-le c.args.slots c.records.result.now (omega (arith, ap length c.records.ensures, length_records c.args.block.now)))
 
 pub returns : goal.returns
-returns c = sym c.loop-i.invariant ∙ ap (rules_below _) (omega arith)
+returns c =
+    all_from_yields_List (λ bytes. is_some (rule_in bytes)) _ _ _ c.all.ensures.ran
+    (YieldsList-from_slice (take c.args.slots (records_in c.args.block.now)) (c.iter.ensures.rest ∙ ap (take c.args.slots) c.records.ensures)) (λ x b q k. search rules)
+    ∙ records_hold c.args.block.now c.args.slots c.requires

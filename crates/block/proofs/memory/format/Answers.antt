@@ -1,10 +1,11 @@
-use Rattle.std.proofs.Common.{◌≡◌, length, replicate, sym, ap, ◌∙◌, arith}
+use Rattle.std.proofs.Common.{◌≡◌, ◌+◌, ◌*◌, length, take, replicate, sym, ap, ◌∙◌, arith}
 use Rattle.std.proofs.lemmas.Bool.{cond-true}
 use Rattle.rule.specs.Making.{open_rule}
 use Rattle.block.specs.Layout.{laid_out}
 use Rattle.block.specs.Memory.{fits, block_entries, formatted}
 use Rattle.block.specs.Memories.{fits_says}
 use Rattle.block.proofs.Formatted.{formatted_none, formatted_more, formatted_all, formatted_means}
+use Rattle.block.proofs.Chunks.{split_put}
 use Rattle.block.proofs.memory.format.Goals as goal
 
 pub loop-number-init : goal.loop-number-init
@@ -15,8 +16,11 @@ loop-number-preserved c =
     let k = c.args.count in
     let n = c.loop-number.number in
     let f = fits_says k (length c.args.bytes.now) c.in_ok-check.ensures.ok in
-    let block = c.format_block.ensures ∙ ap (λ m. laid_out n (replicate m open_rule)) c.slots_in-slots.ensures in
-    formatted_more k n _ c.loop-number.bytes c.format_block.new.block (omega (arith, f.whole)) block c.loop-number.invariant
+    let head = c.of-head.ensures in
+    let block = c.format_block.ensures ∙ (λ i. laid_out (head.number i) (replicate (head.slots i) open_rule)) in
+    let parts = c.split_at_mut-rest.ensures in
+    ap (take (512 * (n + 1))) (split_put c.loop-number.bytes _ _ _ (512 * n) parts.front parts.back)
+    ∙ formatted_more k n 512 c.loop-number.bytes c.format_block.new.block (omega (arith, f.whole)) block c.loop-number.invariant
 
 pub returns : goal.returns
 returns c =

@@ -1,23 +1,25 @@
-use Rattle.std.proofs.Common.{◌≡◌, ◌<◌, None, sym, ap, ◌∙◌, ap₂, rules}
-use Rattle.calls.specs.State.{State}
+use Rattle.std.proofs.Common.{◌≡◌, None, refl, rules, arith}
+use Rattle.std.proofs.lemmas.Grind.{common_steps}
+use Rattle.slots.specs.Meaning.{has}
 use Rattle.calls.specs.Words.{commit}
 use Rattle.calls.specs.Checks.{first_cause, checks}
-use Rattle.calls.specs.Calls.{after_where}
-use Rattle.book.specs.Commits.{stored, told}
+use Rattle.calls.specs.Effects.{number_after}
+use Rattle.book.specs.Runs.{Sound}
 use Rattle.book.specs.Views.{view}
+use Rattle.room.proofs.Rooms.{room_next}
+use Rattle.book.proofs.Commits.{commit_leaves}
 use Rattle.book.proofs.Book.commit.Goals as goal
 
 pub returns : goal.returns
 returns g c =
-    let b = view g.S.Reading.entries c.args.self.now in
+    let b = view g.S.Reading c.args.self.now in
     let s = c.args.session in
-    let inside : s < 8 = search rules in
+    let passed : Sound g.S.Reading c.args.self.now → first_cause (checks b (commit s)) ≡ None = λ h. grind (arith, common_steps, c.check_staged.ensures.value h.store) in
+    let number : Sound g.S.Reading c.args.self.now → c.if-any_below.number ≡ number_after b s = λ h. grind (arith, common_steps, room_next b h.room s (passed h)) in
     record {
-      answer = search rules;
+      answer = λ h. grind (arith, common_steps, number h, passed h);
       after = λ h.
-          let none : first_cause (checks b (commit s)) ≡ None = search rules in
-          let number = c.next_number-number.ensures h none in
-          let rules = c.put_rules.ensures.after (c.commit_cause.ensures.sound h.store) inside ∙ ap (stored s) c.commit_cause.ensures.same in
-          c.tell.ensures.after inside ∙ ap₂ (λ n (a : State). told s n a) number rules ∙ sym (ap (λ o. after_where o b (commit s)) none);
+          let sound = c.check_staged.ensures.sound h.store in
+          commit_leaves b _ s (has c.slots_written-slots.result) (passed h) (number h) (grind (arith, common_steps)) (grind (arith, common_steps, sound, c.check_staged.ensures.same)) (search rules) (search rules) refl;
       store = search rules;
     }

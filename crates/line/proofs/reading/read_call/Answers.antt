@@ -1,29 +1,32 @@
-use Rattle.std.proofs.Common.{◌≡◌, length, Err, sym, refl, ap, ◌∙◌, rules}
-use Rattle.refusal.specs.declared.Refusal.TheVariants.{Unreadable}
+use Rattle.std.proofs.Common.{◌≡◌, sym, ap, ◌∙◌, length, rules}
 use Rattle.line.specs.Reading.{call_of}
-use Rattle.line.proofs.Stepping.{cut_same}
+use Rattle.line.specs.Steps.{next, fields_as}
+use Rattle.line.proofs.Stepping.{call_same}
 use Rattle.line.proofs.OneText.{one_text}
 use Rattle.line.proofs.ReadsBack.{reads_back}
 use Rattle.line.proofs.reading.read_call.Goals as goal
 
-pub returns-in-TooLong : goal.returns-in-TooLong
-returns-in-TooLong g c =
+pub returns-in_err-left : goal.returns-in_err-left
+returns-in_err-left g c =
     let laws = g.met.S.Stamp in
-    let value : Err (Unreadable 80) ≡ call_of g.S.Stamp.reads c.args.line.now = search rules in
+    let reads = g.S.Stamp.reads in
+    let bs = c.args.line.now in
+    let refused = ap (λ r. next r (fields_as reads (length bs))) (sym c.in_err-left.ensures) ∙ call_same reads bs in
+    let value : c.from_residual.result ≡ call_of reads bs = search rules in
     record {
       value = value;
-      one_text = λ call h. one_text g.S.Stamp.reads g.S.Stamp.text laws.one_text c.args.line.now call (sym value ∙ h);
-      reads_back = λ call fits h. value ∙ ap (call_of g.S.Stamp.reads) h ∙ reads_back g.S.Stamp.reads g.S.Stamp.text laws.reads_back laws.no_space laws.short call fits;
+      one_text = λ call h. one_text reads g.S.Stamp.text laws.one_text bs call (sym value ∙ h);
+      reads_back = λ call fits h. value ∙ ap (call_of reads) h ∙ reads_back reads g.S.Stamp.text laws.reads_back laws.no_space laws.short call fits;
     }
 
-pub returns-in_default : goal.returns-in_default
-returns-in_default g c =
+pub returns : goal.returns
+returns g c =
     let laws = g.met.S.Stamp in
-    let value : c.fields_in.result ≡ call_of g.S.Stamp.reads c.args.line.now =
-    cut_same g.S.Stamp.reads (length c.args.line.now) c.args.line.now c.cut.result _
-    c.cut.ensures.long c.cut.ensures.fields c.in_default.not-TooLong refl c.fields_in.ensures in
+    let reads = g.S.Stamp.reads in
+    let bs = c.args.line.now in
+    let value = c.fields_in.ensures ∙ ap (λ r. next r (fields_as reads (length bs))) (sym c.in_ok-left.ensures) ∙ call_same reads bs in
     record {
       value = value;
-      one_text = λ call h. one_text g.S.Stamp.reads g.S.Stamp.text laws.one_text c.args.line.now call (sym value ∙ h);
-      reads_back = λ call fits h. value ∙ ap (call_of g.S.Stamp.reads) h ∙ reads_back g.S.Stamp.reads g.S.Stamp.text laws.reads_back laws.no_space laws.short call fits;
+      one_text = λ call h. one_text reads g.S.Stamp.text laws.one_text bs call (sym value ∙ h);
+      reads_back = λ call fits h. value ∙ ap (call_of reads) h ∙ reads_back reads g.S.Stamp.text laws.reads_back laws.no_space laws.short call fits;
     }

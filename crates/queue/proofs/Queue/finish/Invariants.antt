@@ -1,8 +1,10 @@
-use Rattle.std.proofs.Common.{◌≡◌, ◌++◌, map, take, drop, vec_len}
+use Rattle.std.proofs.Common.{◌≡◌, ◌++◌, map, length, take, drop}
 use Rattle.calls.specs.Effects.{finished}
+use Rattle.queue.specs.Entries.{change_view}
 use Rattle.queue.specs.Views.{queue_view}
 use Rattle.queue.proofs.Queue.finish.Given as goal
 
-abbrev pub invariant-loop-i : goal.invariant-loop-i
-invariant-loop-i l = (queue_view l.self ≡ map (finished l.session) (take l.i (queue_view l.initial.self)) ++ drop l.i (queue_view l.initial.self))
-    × (vec_len l.self.changes ≡ vec_len l.initial.self.changes)
+abbrev pub invariant-loop-change : goal.invariant-loop-change
+invariant-loop-change l =
+    (map change_view l.change-items ≡ map (finished l.session) (take l.change-index (queue_view l.fn.self)) ++ drop l.change-index (queue_view l.fn.self))
+    × (length l.change-items ≡ length (queue_view l.fn.self))

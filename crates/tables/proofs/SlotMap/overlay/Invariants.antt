@@ -4,4 +4,6 @@ use Rattle.tables.proofs.Tables.{upto}
 use Rattle.tables.proofs.SlotMap.overlay.Given as goal
 
 abbrev pub invariant-loop-slot : goal.invariant-loop-slot
-invariant-loop-slot g l = at l.self ≡ upto l.slot (overlaid (at l.over) (at l.initial.self)) (at l.initial.self)
+invariant-loop-slot g l =
+    let old = at (record { values = l.initial.value-items }) in
+    at (record { values = l.value-items }) ≡ upto l.slot (overlaid (at l.over) old) old

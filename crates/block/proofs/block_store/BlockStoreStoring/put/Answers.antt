@@ -13,7 +13,7 @@ write_slot-requires c =
     let k = c.args.self.now.count in
     let x = c.args.slot in
     let lt = inside_from_got _ x _ (sym c.in_ok-rule_at.ensures) in
-    omega (arith, room k (length bytes) x (sized bytes k x lt) (below_count bytes k x lt), ap length c.as_mut_slice.ensures.value)
+    omega (arith, room k (length bytes) x (sized bytes k x lt) (below_count bytes k x lt), ap length c.deref_mut.ensures.value)
 
 pub returns : goal.returns
 returns c =
@@ -27,7 +27,7 @@ returns c =
     let size = sized bytes k x lt in
     let below = below_count bytes k x lt in
     let rule = sym (got_entry bytes k x lt) ∙ found in
-    let slice = c.write_slot.ensures ∙ ap (λ l. with_rule l x r) c.as_mut_slice.ensures.value in
+    let slice = c.write_slot.ensures ∙ ap (λ l. with_rule l x r) c.deref_mut.ensures.value in
     let long = ap length slice ∙ length_with bytes k x r q size below rule ∙ sym c.args.self.now.bytes.ok.0 in
     let written = with_items_is c.args.self.now.bytes c.write_slot.new.bytes long ∙ slice in
     record {

@@ -1,7 +1,7 @@
 use Rattle.std.proofs.Common.{rules}
 use Rattle.calls.specs.Effects.{aborted}
-use Rattle.session.proofs.Rows.{write_record}
+use Rattle.session.proofs.Rows.{record_changed}
 use Rattle.session.proofs.table.Sessions.abort.Goals as goal
 
-pub returns-then-session-lt-SESSIONS : goal.returns-then-session-lt-SESSIONS
-returns-then-session-lt-SESSIONS c = write_record c.args.self.now.records c.args.session _ _ aborted (search rules) (search rules) c.abort.ensures
+pub returns : goal.returns
+returns c = record_changed aborted c.change.ensures (λ a r b p. search rules)

@@ -1,7 +1,7 @@
 use Rattle.std.proofs.Common.{rules}
 use Rattle.calls.specs.Effects.{put_forward}
-use Rattle.session.proofs.Rows.{write_record}
+use Rattle.session.proofs.Rows.{record_changed}
 use Rattle.session.proofs.table.Sessions.put_forward.Goals as goal
 
-pub returns-then-session-lt-SESSIONS : goal.returns-then-session-lt-SESSIONS
-returns-then-session-lt-SESSIONS c = write_record c.args.self.now.records c.args.session _ _ put_forward (search rules) (search rules) c.put_forward.ensures
+pub returns : goal.returns
+returns c = record_changed put_forward c.change.ensures (λ a r b p. search rules)

@@ -1,7 +1,0 @@
-use Rattle.std.proofs.Common.{rules}
-use Rattle.calls.specs.Effects.{committed}
-use Rattle.session.proofs.Rows.{write_record}
-use Rattle.session.proofs.table.Sessions.finish.Goals as goal
-
-pub returns-then-session-lt-SESSIONS : goal.returns-then-session-lt-SESSIONS
-returns-then-session-lt-SESSIONS c = write_record c.args.self.now.records c.args.session _ _ committed (search rules) (search rules) c.commit.ensures

@@ -1,6 +1,0 @@
-use Rattle.std.proofs.Common.{rules}
-use Rattle.tables.proofs.Tables.{at_empty}
-use Rattle.tables.proofs.SlotMap.new.Goals as goal
-
-pub returns : goal.returns
-returns g c = search (rules, at_empty)
