@@ -64,6 +64,7 @@ pub(crate) enum Failure {
     Memory(#[from(alloc)] AllocError),
 }
 
+// By hand, since the text that `thiserror` writes cannot call `meaning`.
 impl From<Refusal> for Failure {
     fn from(refusal: Refusal) -> Failure {
         Failure::Refused(Cause(refusal))

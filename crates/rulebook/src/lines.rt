@@ -1,19 +1,30 @@
 // Scripts, read line by line, and the answers to their lines.
 use crate::failure::{Failure, OnFile, Tried};
 use answer::AnswerLine;
+use either::Either;
 use protocol::Answer;
 use std::fs::File;
-use std::io::{BufRead, BufReader, Read};
+use std::io::{BufRead, BufReader, Stdin};
 
 #[derive(Drop)]
-pub(crate) struct Script<'a, R> {
+pub(crate) struct Script<'a> {
     // told where the script cannot be read
     name: &'a str,
-    lines: BufReader<R>,
+    lines: BufReader<Either<File, Stdin>>,
 }
 
-impl<'a, R: Read + Drop> Script<'a, R> {
-    pub(crate) fn new(rt: &HostRuntime, name: &'a str, reader: R) -> Result<Self, Failure> {
+impl<'a> Script<'a> {
+    // The script in a file or, where none is named, on standard input.
+    pub(crate) fn open(rt: &HostRuntime, file: Option<&'a str>) -> Result<Self, Failure> {
+        let name = file.unwrap_or("standard input");
+        let reader = match file {
+            Some(file) => Either::Left(File::open(rt, file).on_file(
+                rt.alloc(),
+                Tried::Read,
+                name,
+            )?),
+            None => Either::Right(rt.stdin()),
+        };
         let lines = BufReader::new(rt.alloc(), reader)?;
         Ok(Script { name, lines })
     }
@@ -52,12 +63,6 @@ impl<'a, R: Read + Drop> Script<'a, R> {
         }
         Ok(())
     }
-}
-
-// The script in a file.
-pub(crate) fn open<'a>(rt: &HostRuntime, name: &'a str) -> Result<Script<'a, File>, Failure> {
-    let file = File::open(rt, name).on_file(rt.alloc(), Tried::Read, name)?;
-    Script::new(rt, name, file)
 }
 
 // Writes bytes out at once.

@@ -2,23 +2,22 @@
 use crate::commands::{Kind, Place};
 use crate::failure::Failure;
 use crate::files::{load, save};
-use crate::lines::{Script, open};
+use crate::lines::Script;
 use block::block_store::BlockStore;
 use book::Book;
 use protocol::{Answer, Reply};
 use rule::{Parts, Rule};
 use script::do_line;
 use stamp::{ClockStamp, Stamp, Ticket};
-use std::io::Read;
 use store::Storing;
 use store::table::TableStore;
 
 // Does the lines of a script one after another. A commit that wrote has raised the notice number, and its store is kept before it is answered.
-fn play<S: Storing + Drop, K: Stamp, R: Read + Drop, F: Fn(&S) -> Result<(), Failure>>(
+fn play<S: Storing + Drop, K: Stamp, F: Fn(&S) -> Result<(), Failure>>(
     rt: &HostRuntime,
     store: S,
     keep: F,
-    script: Script<'_, R>,
+    script: Script<'_>,
 ) -> Result<(), Failure>
     requires { (f : _) (x : _) → F.pre f x }
 {
@@ -41,18 +40,19 @@ fn play<S: Storing + Drop, K: Stamp, R: Read + Drop, F: Fn(&S) -> Result<(), Fai
     )
 }
 
-fn play_by<S: Storing + Drop, R: Read + Drop, F: Fn(&S) -> Result<(), Failure>>(
+// No value picks a type, so each kind of stamps has its arm.
+fn play_by<S: Storing + Drop, F: Fn(&S) -> Result<(), Failure>>(
     rt: &HostRuntime,
     stamps: Kind,
     store: S,
     keep: F,
-    script: Script<'_, R>,
+    script: Script<'_>,
 ) -> Result<(), Failure>
     requires { (f : _) (x : _) → F.pre f x }
 {
     match stamps {
-        Kind::Clock => play::<S, ClockStamp, R, F>(rt, store, keep, script),
-        Kind::Ticket => play::<S, Ticket, R, F>(rt, store, keep, script),
+        Kind::Clock => play::<S, ClockStamp, F>(rt, store, keep, script),
+        Kind::Ticket => play::<S, Ticket, F>(rt, store, keep, script),
     }
 }
 
@@ -64,22 +64,6 @@ fn table(rt: &HostRuntime, slots: u32) -> Result<TableStore, Failure> {
     Ok(TableStore::new(rows))
 }
 
-fn play_from<R: Read + Drop>(
-    rt: &HostRuntime,
-    place: Place,
-    stamps: Kind,
-    script: Script<'_, R>,
-) -> Result<(), Failure> {
-    match place {
-        // a table is in memory only
-        Place::Table(slots) => play_by(rt, stamps, table(rt, slots)?, |_| Ok(()), script),
-        Place::Image(file) => {
-            let keep = |store: &BlockStore| save(rt, file, store.bytes());
-            play_by(rt, stamps, load(rt, file)?, keep, script)
-        }
-    }
-}
-
 // Plays a script, or standard input.
 pub(crate) fn run(
     rt: &HostRuntime,
@@ -87,11 +71,13 @@ pub(crate) fn run(
     stamps: Kind,
     script: Option<&str>,
 ) -> Result<(), Failure> {
-    match script {
-        Some(file) => play_from(rt, place, stamps, open(rt, file)?),
-        None => {
-            let script = Script::new(rt, "standard input", rt.stdin())?;
-            play_from(rt, place, stamps, script)
+    let script = Script::open(rt, script)?;
+    match place {
+        // a table is in memory only
+        Place::Table(slots) => play_by(rt, stamps, table(rt, slots)?, |_| Ok(()), script),
+        Place::Image(file) => {
+            let keep = |store: &BlockStore| save(rt, file, store.bytes());
+            play_by(rt, stamps, load(rt, file)?, keep, script)
         }
     }
 }

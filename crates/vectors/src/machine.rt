@@ -15,6 +15,15 @@ pub(crate) struct Machine {
     table: TableStore,
 }
 
+fn get(store: &mut impl Reading, slot: &str) -> Result<Answer, Trouble> {
+    Ok(Answer::Read(store.get(number(slot)?)?))
+}
+
+fn put(store: &mut impl Storing, slot: &str, rule: &[&str]) -> Result<Answer, Trouble> {
+    store.put(number(slot)?, Rule::try_from(parts(rule)?)?)?;
+    Ok(Answer::Done)
+}
+
 impl Machine {
     pub(crate) fn new(heap: Global) -> Machine {
         Machine {
@@ -88,12 +97,8 @@ impl Machine {
             }
             ["format", count] => self.format(heap, number(count)?),
             ["count"] => Ok(Answer::Counted(self.blocks.count())),
-            ["get", slot] => Ok(Answer::Read(self.blocks.get(number(slot)?)?)),
-            ["put", slot, rule @ ..] => {
-                self.blocks
-                    .put(number(slot)?, Rule::try_from(parts(rule)?)?)?;
-                Ok(Answer::Done)
-            }
+            ["get", slot] => get(&mut self.blocks, slot),
+            ["put", slot, rule @ ..] => put(&mut self.blocks, slot, rule),
             ["poke", offset, byte] => Ok(self.poke(heap, number(offset)?, number(byte)?)),
             ["image"] => self.image(heap),
             ["dump"] => Ok(Answer::Dumped(digits(heap, self.blocks.bytes())?)),
@@ -102,12 +107,8 @@ impl Machine {
             ["rows", count] => self.rows(heap, number(count)?),
             ["row", slot, row @ ..] => Ok(self.row(heap, number(slot)?, parts(row)?)),
             ["tcount"] => Ok(Answer::Counted(self.table.count())),
-            ["tget", slot] => Ok(Answer::Read(self.table.get(number(slot)?)?)),
-            ["tput", slot, rule @ ..] => {
-                self.table
-                    .put(number(slot)?, Rule::try_from(parts(rule)?)?)?;
-                Ok(Answer::Done)
-            }
+            ["tget", slot] => get(&mut self.table, slot),
+            ["tput", slot, rule @ ..] => put(&mut self.table, slot, rule),
             _ => Err(Trouble::NoCommand),
         }
     }
