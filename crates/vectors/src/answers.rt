@@ -1,10 +1,8 @@
 // What a command gives, and why it gives nothing.
-use hex::FromHexError;
 use refusal::Refusal;
 use rule::Rule;
 use std::alloc::AllocError;
 use std::fmt;
-use std::num::ParseIntError;
 use thiserror::Error;
 
 #[derive(Drop)]
@@ -28,15 +26,9 @@ impl fmt::Display for Answer {
 
 #[derive(Debug, Drop, Error)]
 pub(crate) enum Trouble {
-    // this alone is an answer of a case; any other ends the program
+    // this alone is an answer; the other ends the program
     #[error("{0}")]
     Refused(#[from] Refusal),
-    #[error("{0}")]
+    #[error(transparent)]
     NoMemory(#[from] AllocError),
-    #[error("{0}")]
-    NoNumber(#[from] ParseIntError),
-    #[error("{0}")]
-    NoDigits(#[from] FromHexError),
-    #[error("a line is no command")]
-    NoCommand,
 }

@@ -15,12 +15,12 @@ pub(crate) struct Machine {
     table: TableStore,
 }
 
-fn get(store: &mut impl Reading, slot: &str) -> Result<Answer, Trouble> {
-    Ok(Answer::Read(store.get(number(slot)?)?))
+fn get(store: &mut impl Reading, slot: u32) -> Result<Answer, Trouble> {
+    Ok(Answer::Read(store.get(slot)?))
 }
 
-fn put(store: &mut impl Storing, slot: &str, rule: &[&str]) -> Result<Answer, Trouble> {
-    store.put(number(slot)?, Rule::try_from(parts(rule)?)?)?;
+fn put(store: &mut impl Storing, slot: u32, rule: Parts) -> Result<Answer, Trouble> {
+    store.put(slot, Rule::try_from(rule)?)?;
     Ok(Answer::Done)
 }
 
@@ -91,25 +91,25 @@ impl Machine {
 
     pub(crate) fn answer(&mut self, heap: Global, line: &str) -> Result<Answer, Trouble> {
         let words: Vec<&str> = line.split(' ').collect(heap)?;
-        match words.as_slice() {
-            ["memory", count, length, start] => {
-                self.memory(number(count)?, number(length)?, bytes(heap, start)?)
-            }
-            ["format", count] => self.format(heap, number(count)?),
-            ["count"] => Ok(Answer::Counted(self.blocks.count())),
-            ["get", slot] => get(&mut self.blocks, slot),
-            ["put", slot, rule @ ..] => put(&mut self.blocks, slot, rule),
-            ["poke", offset, byte] => Ok(self.poke(heap, number(offset)?, number(byte)?)),
-            ["image"] => self.image(heap),
-            ["dump"] => Ok(Answer::Dumped(digits(heap, self.blocks.bytes())?)),
-            ["text", rule] => Ok(Answer::Read(Rule::read(&bytes(heap, rule)?)?)),
-            ["parts", rule @ ..] => Ok(Answer::Read(Rule::try_from(parts(rule)?)?)),
-            ["rows", count] => self.rows(heap, number(count)?),
-            ["row", slot, row @ ..] => Ok(self.row(heap, number(slot)?, parts(row)?)),
-            ["tcount"] => Ok(Answer::Counted(self.table.count())),
-            ["tget", slot] => get(&mut self.table, slot),
-            ["tput", slot, rule @ ..] => put(&mut self.table, slot, rule),
-            _ => Err(Trouble::NoCommand),
+        let words = words.as_slice();
+        let first = number(words, 1);
+        match words.first().copied().unwrap_or("") {
+            "memory" => self.memory(first, number(words, 2), bytes(heap, words, 3)?),
+            "format" => self.format(heap, first),
+            "count" => Ok(Answer::Counted(self.blocks.count())),
+            "get" => get(&mut self.blocks, first),
+            "put" => put(&mut self.blocks, first, parts(words, 2)),
+            "poke" => Ok(self.poke(heap, first, number(words, 2))),
+            "image" => self.image(heap),
+            "dump" => Ok(Answer::Dumped(digits(heap, self.blocks.bytes())?)),
+            "text" => Ok(Answer::Read(Rule::read(&bytes(heap, words, 1)?)?)),
+            "parts" => Ok(Answer::Read(Rule::try_from(parts(words, 1))?)),
+            "rows" => self.rows(heap, first),
+            "row" => Ok(self.row(heap, first, parts(words, 2))),
+            "tget" => get(&mut self.table, first),
+            "tput" => put(&mut self.table, first, parts(words, 2)),
+            // `tcount`, and any word that is no command
+            _ => Ok(Answer::Counted(self.table.count())),
         }
     }
 }
