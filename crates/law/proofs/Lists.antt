@@ -30,10 +30,15 @@ module _ {X : Type 0} (B C : X → X → Type 0) (weaker : (b c : X) → B b c �
       cond_both (test x) (x ∷ filter test xs) (filter test xs) (Pairwise C)
       (λ _. (all_kept (λ b. B b x) (λ b. C b x) test (λ b _ p. weaker b x p) xs pairs.0, pairs_kept xs pairs.1)) (λ _. pairs_kept xs pairs.1)
 
-module _ {X : Type 0} (B : X → X → Type 0) (f : X → X) (kept : (b c : X) → B b c → B (f b) (f c)) where
-  pub pairs_map : (xs : List X) → Pairwise B xs → Pairwise B (map f xs)
+module _ {X Y : Type 0} (B : X → X → Type 0) (C : Y → Y → Type 0) (f : X → Y) (kept : (b c : X) → B b c → C (f b) (f c)) where
+  pub pairs_map : (xs : List X) → Pairwise B xs → Pairwise C (map f xs)
   pairs_map [] pairs = tt
-  pairs_map (x ∷ xs) pairs = (all_map (λ b. B b x) (λ b. B b (f x)) f (λ b. kept b x) xs pairs.0, pairs_map xs pairs.1)
+  pairs_map (x ∷ xs) pairs = (all_map (λ b. B b x) (λ b. C b (f x)) f (λ b. kept b x) xs pairs.0, pairs_map xs pairs.1)
+
+module _ {X : Type 0} (B C : X → X → Type 0) (kept : (b c : X) → B b c → C b c) where
+  pub pairs_weaker : (xs : List X) → Pairwise B xs → Pairwise C xs
+  pairs_weaker [] pairs = tt
+  pairs_weaker (x ∷ xs) pairs = (all_weaker (λ b. B b x) (λ b. C b x) (λ b. kept b x) xs pairs.0, pairs_weaker xs pairs.1)
 
 module _ {X : Type 0} where
   pub slice_get-set_other : (l : List X) (x y : ℕ) (e : X) → (x ≡ y → ⊥) → slice_get (set l y e) x ≡ slice_get l x
@@ -52,3 +57,7 @@ module _ {X : Type 0} where
   same_entries [] (b ∷ k) same = let h = same 0 in cc
   same_entries (a ∷ l) [] same = let h = same 0 in cc
   same_entries (a ∷ l) (b ∷ k) same = let h : Some a ≡ Some b = same 0 in let t = same_entries l k (λ x. same (suc x)) in cc
+
+-- a slot inside holds something
+pub filled : {X : Type 0} (l : List X) (x : ℕ) → x < length l → is_some (slice_get l x) ≡ true
+filled l x lt = grind (arith, common_steps, gets)

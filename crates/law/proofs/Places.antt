@@ -69,8 +69,8 @@ module _ {R : Type 0} where
   written n o (Some b) f d e = let h = f b refl in let same : with_operation o b ≡ d = cc in let began = ap (λ (x : Draft R). x.began) same in omega arith
 
   module _ (a : Account R) (now : NotedBefore (suc a.place) a) where
-    pause : Places (after passes a)
-    pause = record { logged = now.logged; took = now.took; drafted = now.drafted; begun = now.begun; ordered = now.ordered }
+    passed : Places (after passes a)
+    passed = record { logged = now.logged; took = now.took; drafted = now.drafted; begun = now.begun; ordered = now.ordered }
 
     -- one session's draft is replaced
     redrafted : (s : ℕ) (f : Option (Draft R) → Option (Draft R)) → ((t : ℕ) (d : Draft R) → f (a.drafts t) ≡ Some d → d.began < suc a.place)
@@ -95,6 +95,9 @@ module _ {R : Type 0} where
         (λ _ e. now.took t x p e)
 
   module _ (a : Account R) (places : Places a) where
+    pub pause : Places (after passes a)
+    pause = passed a (later a.place a places)
+
     joined_begun : (s : ℕ) (k : Key) (o : Option (Draft R)) → ((d : Draft R) → o ≡ Some d → d.began < a.place)
         → AllByRecursion (λ (c : Change R). c.began < suc a.place) (joined_by a.accepted s k o)
     joined_begun s k None f = (later a.place a places).begun
@@ -163,8 +166,8 @@ module _ {R : Type 0} where
         begun = joined_begun a places s k (a.drafts s) (places.drafted s);
         ordered = joined_ordered a places s k (a.drafts s);
       }
-      go (forwards s k (stale x)) now = pause a now
-      go (forwards s k withheld) now = pause a now
+      go (forwards s k (stale x)) now = passed a now
+      go (forwards s k withheld) now = passed a now
       go (commits s) now = record {
         logged = (omega arith, now.logged);
         took = taken_now a now (replaced_by s a.accepted) s;
@@ -181,7 +184,7 @@ module _ {R : Type 0} where
             (λ c _ lt. lt) a.accepted now.begun;
         ordered = pairs_kept BeganFirst BeganFirst (λ b c first. first) (λ c. not (pending_of s c)) a.accepted now.ordered;
       }
-      go passes now = pause a now
+      go passes now = passed a now
 
   pub no_places : Places {R = R} nothing_yet
   no_places = record { logged = tt; took = λ s x p e. cc; drafted = λ s d e. cc; begun = tt; ordered = tt }
