@@ -5,3 +5,5 @@ pub mod kept
 pub mod Steps
 pub mod Owed
 pub mod Bounds
+pub mod Causes
+pub mod Sessions

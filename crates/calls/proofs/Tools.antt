@@ -1,6 +1,6 @@
 -- Small tools: cases on a session's number, options, and what it says that no check turned a call away. Assumes nothing.
 use Rattle.std.proofs.Common.{◌≡◌, ℕ, zero, suc, Bool, true, false, cond, eqb, ◌⊎◌, List, [], ◌∷◌, ◌++◌, map, is_some, Some, None, filter, Option, sym, refl, ap, subst, inl, inr, arith}
-use Rattle.std.specs.Option.{option_map}
+use Rattle.std.specs.Option.{option_map, option_or}
 use Rattle.std.specs.List.{AllByRecursion}
 use Rattle.std.proofs.lemmas.Bool.{eqb-true, eqb-false, eq-eqb, ne_eqb, cond_both, both_ways}
 use Rattle.refusal.specs.declared.Refusal.{Refusal}
@@ -42,6 +42,10 @@ none_is (Some x) e = cc
 -- two tests with the same meaning are equal
 pub same_test : (v w : Bool) → (v ≡ true → w ≡ true) → (w ≡ true → v ≡ true) → v ≡ w
 same_test v w f g = grind arith
+
+pub clear_head : {X : Type 0} (o p : Option X) → option_or o p ≡ None → (o ≡ None) × (p ≡ None)
+clear_head None p e = (refl, e)
+clear_head (Some x) p e = cc
 
 -- the finding of the i-th check
 abbrev pub finding : List (Option Refusal) → ℕ → Option Refusal

@@ -26,7 +26,7 @@ use Rattle.calls.specs.Words.{forward}
 use Rattle.calls.specs.Checks.{first_cause, checks, count, not_after, later_clash, pending_clash, owed, last_number, desk_of, work_of}
 use Rattle.calls.specs.Effects.{effect, put_forward, entry_of}
 use Rattle.calls.proofs.kept.Phases.{changes_kept, opened_is, in_phase}
-use Rattle.calls.proofs.kept.Desks.{touched_read, has_weaker}
+use Rattle.calls.proofs.kept.Desks.{touched_read, work_weaker}
 
 -- what it says that no check turned a forward away
 pub record Accepted (b : State) (s : ℕ) (k : Key) : Type 0 where
@@ -239,6 +239,6 @@ module _ (first : List Entry) (b : State) (a : Account Rule) (s : ℕ) (k : Key)
             sound = λ x w. let c = true_read x (written_seen x w) in (c.0, c.2);
           },
         )
-        (λ t _. has_weaker b a t (has_pending t (new ∷ a.accepted)) (b.sessions t).work.phase (λ h. or_right (pending_of t new) _ h) (inv.works t));
+        (λ t _. work_weaker b a t (has_pending t (new ∷ a.accepted)) (b.sessions t).work.phase (λ h. or_right (pending_of t new) _ h) (inv.works t));
     places = subst (λ o. Places (account_now o)) drafted (places_kept (forwards s k accepted) a inv.places);
   })

@@ -1,5 +1,5 @@
 -- Striking out the pending change of a session: it was in no run. Assumes nothing.
-use Rattle.std.proofs.Common.{◌≡◌, ℕ, true, not, List, [], ◌∷◌, filter, Option, sym, refl, ◌∙◌, arith, cond, None}
+use Rattle.std.proofs.Common.{◌≡◌, ℕ, true, not, List, [], ◌∷◌, filter, is_some, Some, Option, sym, refl, ◌∙◌, arith, cond, None}
 use Rattle.std.proofs.lemmas.Bool.{cond_both}
 use Rattle.rule.specs.declared.Rule.{Rule}
 use Rattle.store.specs.declared.Entry.{Entry}
@@ -10,7 +10,7 @@ use Rattle.law.proofs.Runs.{AllRight, held_after, right_local}
 use Rattle.std.specs.List.{slice_get, AllByRecursion}
 use Rattle.law.proofs.Lists.{pairs_kept}
 use Rattle.std.proofs.lemmas.Bool.Decides.{nat_tests}
-use Rattle.calls.proofs.kept.Desks.{has_weaker}
+use Rattle.calls.proofs.kept.Desks.{work_weaker}
 use Rattle.calls.proofs.Tools.{each_session}
 use Rattle.calls.specs.State.{Queued, Session, State}
 use Rattle.calls.proofs.Invariant.{has_pending, Between, Known, Settled, WorkIn, WorkOk}
@@ -18,6 +18,11 @@ use Rattle.calls.proofs.Invariant.{has_pending, Between, Known, Settled, WorkIn,
 -- the accepted changes without the pending one of a session
 abbrev pub without : ℕ → List (Change Rule) → List (Change Rule)
 without s cs = filter (λ c. not (pending_of s c)) cs
+
+-- a pending change is not committed
+pub pending_none : (o : Option ℕ) → not (is_some o) ≡ true → o ≡ None
+pending_none None e = refl
+pending_none (Some p) e = cc
 
 pub struck_holds : (m : ℕ → Option Entry) (s : ℕ) (cs : List (Change Rule)) (x : ℕ) → held_after Intact m (without s cs) x ≡ held_after Intact m cs x
 struck_holds m s [] x = refl
@@ -60,4 +65,4 @@ pub struck_works : (b : State) (a : Account Rule) (s : ℕ) (f : Session → Ses
 struck_works b a s f own works = each_session
     (λ v t. WorkOk b.entries (cond v (f (b.sessions t)) (b.sessions t)).desk (cond v None (a.drafts t)) (has_pending t (without s a.accepted))
     (cond v (f (b.sessions t)) (b.sessions t)).work) s own
-    (λ t ne. has_weaker b a t (has_pending t (without s a.accepted)) (b.sessions t).work.phase (struck_has s t ne a.accepted) (works t))
+    (λ t ne. work_weaker b a t (has_pending t (without s a.accepted)) (b.sessions t).work.phase (struck_has s t ne a.accepted) (works t))
