@@ -17,7 +17,7 @@ use Rattle.calls.proofs.Owed.{owed_push, owed_kept, owed_finished, owed_own}
 use Rattle.calls.proofs.kept.Phases.{opened_is}
 use Rattle.calls.proofs.kept.Commits.{length_puts}
 use Rattle.room.specs.Room.{owes, Room}
-use Rattle.room.proofs.Owings.{owing, owes_push, owes_last, owes_kept, owes_finished}
+use Rattle.room.proofs.Owings.{owing, owed_one, owes_push, owes_last, owes_kept, owes_finished}
 
 -- a session with a pending change that writes is in the queue
 abbrev Owing : ℕ → ℕ → List Queued → Session → Type 0
@@ -36,7 +36,7 @@ waits b s none = not-false _ (when_none _ _ (cleared (checks b (commit s)) none 
 
 -- a commit that writes and is not turned away finds a notice number
 pub room_next : (b : State) → Room b → (s : ℕ) → first_cause (checks b (commit s)) ≡ None → any_below (count b) (written (work_of b s)) ≡ true → b.number < 4294967295
-room_next b r s none a = omega (arith, r.numbers, owed_own (count b) s b.queue (owing (count b) s b.queue (r.pending s (waits b s none) a)))
+room_next b r s none a = omega (arith, r.numbers, owed_one (count b) s b.queue (r.pending s (waits b s none) a))
 
 room_write : (b : State) (s x : ℕ) (q : Rule) → first_cause (checks b (write s x q)) ≡ None → Room b → Room (effect b (write s x q))
 room_write b s x q none r =
