@@ -1,7 +1,8 @@
 -- Words added up plainly and low byte first give the one's complement sum, once the carries are added back and the bytes swapped. Assumes nothing.
-use Rattle.std.proofs.Common.{◌≡◌, ℕ, zero, suc, ◌+◌, ◌-◌, ◌*◌, ◌/◌, ◌%◌, ◌<◌, ◌≤◌, Bool, true, false, cond, ltb, List, [], ◌∷◌, length, get_or, fold, refl, ap, ◌∙◌, ⊎_elim, arith}
+use Rattle.std.proofs.Common.{◌≡◌, ℕ, zero, suc, ◌+◌, ◌-◌, ◌*◌, ◌/◌, ◌%◌, ◌<◌, ◌≤◌, Bool, true, false, cond, ltb, List, [], ◌∷◌, length, get_or, drop, fold, sym, refl, ap, ◌∙◌, ⊎_elim, arith}
 use Rattle.std.specs.List.{sum_by}
 use Rattle.std.specs.Simd.{first_chunks}
+use Rattle.std.proofs.lemmas.List.{drop_more, drop_all}
 use Rattle.std.proofs.lemmas.Bool.{cases_eq}
 use Rattle.std.proofs.lemmas.Bool.Decides.{nat_tests}
 use Rattle.block.specs.Check.{◌⊕◌, words, ones_sum, check}
@@ -85,3 +86,34 @@ unfolding check ones_sum
 check_carried bytes once twice swapped few even small e f g =
     ap (λ s. 65535 - s)
     (g ∙ agree_same (256 * plain_sum bytes) _ _ (agree_carried (plain_sum bytes) once twice (plain_small bytes few even small) e f) (added (length bytes / 2) bytes 0 0 (omega arith) small agree_none))
+
+-- i words are added up, low byte first
+pub record Added (bytes : List ℕ) (i plain : ℕ) : Type 0 where
+  pub bounded : plain ≤ 65535 * i
+  pub ones : ℕ
+  pub agree : Agree (256 * plain) ones
+  pub left : fold ◌⊕◌ ones (words (drop (2 * i) bytes)) ≡ ones_sum (words bytes)
+
+pub added_none : (bytes : List ℕ) → Added bytes 0 0
+unfolding ones_sum
+added_none bytes = record { bounded = omega arith; ones = 0; agree = agree_none; left = refl }
+
+two_more : (bytes : List ℕ) (i : ℕ) → 2 * i + 1 < length bytes → drop (2 * i) bytes ≡ get_or bytes (2 * i) 0 ∷ get_or bytes (2 * i + 1) 0 ∷ drop (2 * (i + 1)) bytes
+two_more bytes i h =
+    drop_more bytes (2 * i) 0 (omega arith) ∙ ap (λ bs. get_or bytes (2 * i) 0 ∷ bs) (drop_more bytes (2 * i + 1) 0 h)
+    ∙ ap (λ m. get_or bytes (2 * i) 0 ∷ get_or bytes (2 * i + 1) 0 ∷ drop m bytes) (omega arith)
+
+pub added_more : (bytes : List ℕ) (i plain w : ℕ) → 2 * i + 1 < length bytes → w ≡ get_or bytes (2 * i) 0 + get_or bytes (2 * i + 1) 0 * 256 → get_or bytes (2 * i) 0 < 256 → get_or bytes (2 * i + 1) 0 < 256 → Added bytes i plain → Added bytes (i + 1) (plain + w)
+unfolding words
+added_more bytes i plain w h e high low a = record {
+  bounded = omega arith;
+  ones = a.ones ⊕ (get_or bytes (2 * i) 0 * 256 + get_or bytes (2 * i + 1) 0);
+  agree = rw e (agree_swapped plain a.ones (get_or bytes (2 * i) 0) (get_or bytes (2 * i + 1) 0) high low a.agree);
+  left = ap (λ bs. fold ◌⊕◌ a.ones (words bs)) (sym (two_more bytes i h)) ∙ a.left;
+}
+
+-- all words added up, the carries added back, and the bytes swapped
+pub added_all : (bytes : List ℕ) (i plain once twice swapped : ℕ) → length bytes ≤ 2 * i → i ≤ 256 → Added bytes i plain → once ≡ plain % 65536 + plain / 65536 → twice ≡ once % 65536 + once / 65536 → swapped ≡ twice % 256 * 256 + twice / 256 % 256 → 65535 - swapped ≡ check bytes
+unfolding words check
+added_all bytes i plain once twice swapped all few a e f g =
+    ap (λ s. 65535 - s) (g ∙ agree_same (256 * plain) _ a.ones (agree_carried plain once twice (omega (arith, a.bounded)) e f) a.agree ∙ sym (ap (λ bs. fold ◌⊕◌ a.ones (words bs)) (drop_all (2 * i) bytes all)) ∙ a.left)

@@ -1,5 +1,6 @@
 -- A block of rules that is laid out reads back as those rules. Assumes nothing.
 use Rattle.std.proofs.Common.{◌≡◌, ℕ, zero, suc, ◌+◌, ◌-◌, ◌*◌, ◌<◌, ◌≤◌, true, List, [], ◌∷◌, ◌++◌, length, get_or, take, drop, replicate, is_some, Some, None, sym, refl, ap, ◌∙◌, arith, length-append}
+use borrow.Rule.Slice.PartMut.{put_mid}
 use lib.ListN.{length-replicate}
 use Rattle.std.specs.List.{flat_map, AllByRecursion}
 use lib.Seq.{paste}
@@ -11,6 +12,7 @@ use Rattle.rule.proofs.Rules.{rule_makes}
 use Rattle.block.specs.Layout.{rule_in, rule_at, record_bytes, record_start, with_record, all_zero, head_right, body_right, damage_of, with_check, sealed, laid_out, WrittenReadsBack}
 use Rattle.block.specs.OneRecord.{length_record, rule_in_record}
 use Rattle.block.specs.Right.{rules_from_each}
+use Rattle.block.specs.Rewritten.{record_pasted}
 use Rattle.block.specs.Sealed.{length_sealed, rule_sealed, sealed_right}
 
 -- the bytes behind the head
@@ -149,6 +151,10 @@ unsealed_open n k i b inv =
     ∙ ap (λ m. with_record (unsealed n k (replicate i open_rule)) m open_rule) (sym (length-replicate i open_rule))
     ∙ unsealed_more n k (replicate i open_rule) open_rule
     ∙ ap (unsealed n k) (replicate_more i open_rule)
+
+-- the same, as a copy leaves it
+pub unsealed_copied : (n k i : ℕ) (b bytes : List ℕ) → b ≡ unsealed n k (replicate i open_rule) → bytes ≡ record_bytes open_rule → put_mid (record_start i) (record_start i + 12 - record_start i) b bytes ≡ unsealed n k (replicate (i + 1) open_rule)
+unsealed_copied n k i b bytes inv e = record_pasted b bytes i open_rule e ∙ unsealed_open n k i b inv
 
 pub laid_open : (n k i : ℕ) → k ≡ i → sealed (unsealed n k (replicate i open_rule)) ≡ laid_out n (replicate k open_rule)
 laid_open n k i e =

@@ -1,16 +1,23 @@
 -- Writing the check of a block makes it right, and changes nothing else. Assumes nothing.
-use Rattle.std.specs.Prelude.{◌≡◌, ℕ, zero, suc, ◌+◌, ◌-◌, ◌<◌, ◌≤◌, true, ◌&&◌, List, [], ◌∷◌, length, take, drop, is_some, None, slice_index, slice_index_or, refl}
+use Rattle.std.specs.Prelude.{◌≡◌, ℕ, zero, suc, ◌+◌, ◌-◌, ◌<◌, ◌≤◌, true, ◌&&◌, List, [], ◌∷◌, length, take, drop, is_some, None, slice_index, slice_index_or, slice_set, refl}
 use Rattle.std.proofs.Common.{sym, ap, ◌∙◌, arith, length-drop}
 use Rattle.std.proofs.lemmas.List.{take_all, drop-drop, get_or-drop}
 use Rattle.std.proofs.lemmas.Bool.{eq-eqb}
 use Rattle.block.specs.Check.{check}
-use Rattle.block.specs.Layout.{rule_in, rule_at, record_start, rules_below, check_right, head_right, body_right, damage_of, with_check, sealed}
+use Rattle.block.specs.Layout.{word_bytes, rule_in, rule_at, record_start, rules_below, check_right, head_right, body_right, damage_of, with_check, sealed}
 use Rattle.block.specs.OneRecord.{word_back}
 use Rattle.block.specs.Right.{none_from_right}
 
 -- the bytes behind the check
 pub behind_check : (b : List ℕ) → length b ≡ 512 → take 510 (drop 2 b) ≡ drop 2 b
 behind_check b e = take_all 510 (drop 2 b) (simp length-drop (omega arith))
+
+-- the two bytes of the check, written one by one
+pub seal_writes : (b cs : List ℕ) → 2 ≤ length b → cs ≡ word_bytes (check (drop 2 b)) → slice_set (slice_set b 0 (slice_index cs 0)) 1 (slice_index cs 1) ≡ sealed b
+unfolding sealed with_check
+seal_writes [] cs h e = absurd (omega arith)
+seal_writes (x ∷ []) cs h e = absurd (omega arith)
+seal_writes (x ∷ y ∷ bytes) cs h e = ap (λ (two : List ℕ). slice_index two 0 ∷ slice_index two 1 ∷ bytes) e
 
 check_small : (bytes : List ℕ) → check bytes < 65536
 unfolding check
