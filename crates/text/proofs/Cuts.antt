@@ -18,6 +18,10 @@ pub lacks_append : (c : ℕ) (xs ys : List ℕ) → Lacks c xs → Lacks c ys �
 lacks_append c [] ys h k = k
 lacks_append c (x ∷ xs) ys h k = (h.0, lacks_append c xs ys h.1 k)
 
+pub split_none : (c : ℕ) (bs : List ℕ) → Lacks c bs → split c bs ≡ None
+split_none c [] h = refl
+split_none c (b ∷ bs) h = rw (ne_eqb b c h.0, split_none c bs h.1)
+
 -- the first c is behind a text that lacks it
 pub split_at : (c : ℕ) (xs ys : List ℕ) → Lacks c xs → split c (xs ++ c ∷ ys) ≡ Some (xs, ys)
 split_at c [] ys h = rw (eq-eqb c c refl)

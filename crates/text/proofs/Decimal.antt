@@ -1,10 +1,10 @@
 -- A number within the limit is what its decimal text reads as, and no other text reads as it. Assumes nothing.
-use Rattle.std.proofs.Common.{◌≡◌, ℕ, ◌+◌, ◌-◌, ◌*◌, ◌^◌, ◌<◌, ◌≤◌, true, cond, ◌&&◌, leb, List, [], ◌∷◌, ◌++◌, length, get_or, drop, Some, None, decimal, Option, sym, ap, ◌∙◌, ⊎_elim, arith, rules}
+use Rattle.std.proofs.Common.{◌≡◌, ℕ, ◌+◌, ◌-◌, ◌*◌, ◌^◌, ◌<◌, ◌≤◌, true, cond, ◌&&◌, leb, List, [], ◌∷◌, ◌++◌, length, get_or, drop, IfSome, Some, None, decimal, Option, sym, refl, ap, ◌∙◌, ⊎_elim, arith, rules}
 use Rattle.std.specs.Int.{IsInRange}
 use Rattle.std.specs.Char.{is_ascii_digit}
 use Rattle.std.specs.Str.{all_ascii_digits}
 use Rattle.std.proofs.lemmas.Fmt.{decimal_digit, decimal_nonempty, first_decimal, digits_decimal, digits_value-decimal, decimal-digits_value}
-use Rattle.std.proofs.lemmas.List.{at_drop_more}
+use Rattle.std.proofs.lemmas.List.{at_drop_more, at_drop_all}
 use Rattle.std.proofs.lemmas.Str.Parse.{IsNumeralModel, numerals_by_fold, not_in_digits}
 use Rattle.std.proofs.lemmas.Bool.{and_parts, and_from, leb-true, le-leb, cases_lt, cond-true}
 use Rattle.std.proofs.lemmas.Bool.Decides.{nat_tests}
@@ -38,8 +38,19 @@ pub record Read (most : ℕ) (bs : List ℕ) (i n : ℕ) : Type 0 where
   pub rest : number_after most n (drop i bs) ≡ number_after most 0 bs
   pub small : n ≤ most
 
+pub read_none : (most : ℕ) (bs : List ℕ) → Read most bs 0 0
+read_none most bs = record { rest = refl; small = omega arith }
+
+pub read_more : (most : ℕ) (bs : List ℕ) (i n m : ℕ) → Read most bs i n → i < length bs → Some m ≡ number_after most n (get_or bs i 0 ∷ []) → Read most bs (i + 1) m
+read_more most bs i n m h lt e =
+    let step = after_more most n (get_or bs i 0) m (drop (i + 1) bs) e in
+    record { rest = sym step.0 ∙ sym (at_drop_more (number_after most n) bs i 0 lt) ∙ h.rest; small = step.1 }
+
 pub read_stop : (most : ℕ) (bs : List ℕ) (i n : ℕ) → Read most bs i n → i < length bs → None ≡ number_after most n (get_or bs i 0 ∷ []) → None ≡ number_after most 0 bs
 read_stop most bs i n h lt e = sym (after_none most n (get_or bs i 0) (drop (i + 1) bs) e) ∙ sym (at_drop_more (number_after most n) bs i 0 lt) ∙ h.rest
+
+pub read_all : (most : ℕ) (bs : List ℕ) (i n : ℕ) → Read most bs i n → length bs ≤ i → Some n ≡ number_after most 0 bs
+read_all most bs i n h le = sym (cond-true (leb n most) (Some n) None (le-leb n most h.small)) ∙ sym (at_drop_all (number_after most n) bs i le) ∙ h.rest
 
 well_led_decimal : (n : ℕ) → n < 2 ^ 64 → well_led (decimal n) ≡ true
 well_led_decimal n h =
@@ -76,3 +87,22 @@ decimal_number most n bs h e =
 -- what reads as a text's number reads the number's own text back
 pub reads_back : (most : ℕ) (bs : List ℕ) (r : Option ℕ) → most < 2 ^ 64 → r ≡ number_of most bs → (n : ℕ) → n ≤ most → bs ≡ decimal n → r ≡ Some n
 reads_back most bs r h e n le same = e ∙ ap (number_of most) same ∙ number_decimal most n le (omega arith)
+
+within : (most : ℕ) (bs : List ℕ) (r : Option ℕ) → most < 2 ^ 64 → r ≡ number_of most bs → IfSome r (λ n. n ≤ most)
+within most bs None h e = tt
+within most bs (Some n) h e = (decimal_number most n bs h (sym e)).1
+
+-- all that is told of a result
+pub record Told (most : ℕ) (bs : List ℕ) (r : Option ℕ) : Type 0 where
+  pub value : r ≡ number_of most bs
+  pub within : IfSome r (λ n. n ≤ most)
+  pub one_text : (n : ℕ) → r ≡ Some n → bs ≡ decimal n
+  pub reads_back : (n : ℕ) → n ≤ most → bs ≡ decimal n → r ≡ Some n
+
+pub told : (most : ℕ) (bs : List ℕ) (r : Option ℕ) → most < 2 ^ 64 → r ≡ number_of most bs → Told most bs r
+told most bs r h e = record {
+  value = e;
+  within = within most bs r h e;
+  one_text = λ n s. (decimal_number most n bs h (sym e ∙ s)).0;
+  reads_back = reads_back most bs r h e;
+}
