@@ -1,8 +1,8 @@
 -- What is kept of the queue and counted in it, by what its entries mean. Assumes nothing.
-use Rattle.std.proofs.Common.{◌≡◌, ℕ, suc, ◌+◌, ◌<◌, Bool, true, false, cond, List, [], ◌∷◌, ◌++◌, map, length, get_or, take, drop, set, filter, refl, sym, ap, ◌∙◌, arith}
+use Rattle.std.proofs.Common.{◌≡◌, ℕ, suc, ◌+◌, ◌<◌, ◌≤◌, Bool, true, false, cond, List, [], ◌∷◌, ◌++◌, map, length, get_or, take, drop, set, filter, refl, sym, ap, ◌∙◌, arith}
 use Rattle.std.specs.List.{count_by}
 use Rattle.std.specs.List.Retain.{IsFiltered}
-use Rattle.std.proofs.lemmas.List.{map-set, get_or-map}
+use Rattle.std.proofs.lemmas.List.{map-set, get_or-map, at_drop_more, at_drop_all}
 use Rattle.std.proofs.lemmas.List.Edits.{map_over_more}
 use Rattle.std.proofs.lemmas.Fn.{filter_same}
 use Rattle.std.proofs.lemmas.List.Recursion.{is_count_by}
@@ -15,7 +15,8 @@ module _ {X Y : Type 0} (v : X → Y) (t : Y → Bool) where
   kept_cond true x xs ys e = ap (λ l. v x ∷ l) e
   kept_cond false x xs ys e = e
 
-  kept_view : (xs : List X) → map v (filter (λ x. t (v x)) xs) ≡ filter t (map v xs)
+  -- what is kept, by what it means
+  pub kept_view : (xs : List X) → map v (filter (λ x. t (v x)) xs) ≡ filter t (map v xs)
   kept_view [] = refl
   kept_view (x ∷ xs) = kept_cond (t (v x)) x (filter (λ x. t (v x)) xs) (filter t (map v xs)) (kept_view xs)
 
@@ -29,6 +30,20 @@ module _ {X : Type 0} (v : X → Queued) (n : ℕ) where
   owed_counted k xs e = e ∙ sym (is_count_by (λ xs. owed n (map v xs)) (λ x. owing n (v x)) refl (λ x xs. one_more (owing n (v x)) (owed n (map v xs))) xs) where
     one_more : (b : Bool) (m : ℕ) → cond b (suc m) m ≡ cond b (1 + m) m
     one_more b m = ap (λ k. cond b k m) (omega arith)
+
+  -- from the place i on, and from the next one
+  pub owed_more_yes : (xs : List X) (i : ℕ) (x : X) → i < length xs → x ≡ get_or xs i x → owing n (v x) ≡ true → owed n (map v (drop i xs)) ≡ suc (owed n (map v (drop (i + 1) xs)))
+  owed_more_yes xs i x l is e =
+      at_drop_more (λ ys. owed n (map v ys)) xs i x l
+      ∙ ap (λ b. cond b (suc (owed n (map v (drop (i + 1) xs)))) (owed n (map v (drop (i + 1) xs)))) (ap (λ y. owing n (v y)) (sym is) ∙ e)
+
+  pub owed_more_no : (xs : List X) (i : ℕ) (x : X) → i < length xs → x ≡ get_or xs i x → owing n (v x) ≡ false → owed n (map v (drop i xs)) ≡ owed n (map v (drop (i + 1) xs))
+  owed_more_no xs i x l is e =
+      at_drop_more (λ ys. owed n (map v ys)) xs i x l
+      ∙ ap (λ b. cond b (suc (owed n (map v (drop (i + 1) xs)))) (owed n (map v (drop (i + 1) xs)))) (ap (λ y. owing n (v y)) (sym is) ∙ e)
+
+  pub owed_all : (xs : List X) (i : ℕ) → length xs ≤ i → owed n (map v (drop i xs)) ≡ 0
+  owed_all xs i l = at_drop_all (λ ys. owed n (map v ys)) xs i l
 
 module _ {X Y : Type 0} (v : X → Y) (f : Y → Y) where
   -- one more is changed in its place
