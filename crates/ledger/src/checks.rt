@@ -82,8 +82,8 @@ impl Ledger {
         ensures value { result_err result ≡ first_cause (write_checks (state (S.Reading.entries store.now) self.now) session slot) }
         ensures passed { OnOk result ((session < 8) × (slot < 64)) }
     {
-        let own = self.open_holder(store, session, slot)?;
-        require(own.has_read(slot), Refusal::NotRead { slot })
+        let record = self.open_holder(store, session, slot)?;
+        require(record.has_read(slot), Refusal::NotRead { slot })
     }
 
     pub fn check_drop<S: Reading>(&self, store: &S, session: u32, slot: u32) -> Result<(), Refusal>
