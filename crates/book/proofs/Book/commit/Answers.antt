@@ -14,12 +14,12 @@ pub returns : goal.returns
 returns g c =
     let b = view g.S.Reading c.args.self.now in
     let s = c.args.session in
-    let passed : Sound g.S.Reading c.args.self.now → first_cause (checks b (commit s)) ≡ None = λ h. grind (arith, common_steps, c.check_staged.ensures.value h.store) in
+    let passed : Sound g.S.Reading c.args.self.now → first_cause (checks b (commit s)) ≡ None = λ h. grind (arith, common_steps, c.in_ok-own.ensures.value h.store) in
     let number : Sound g.S.Reading c.args.self.now → c.if-any_below.number ≡ number_after b s = λ h. grind (arith, common_steps, room_next b h.room s (passed h)) in
     record {
       answer = λ h. grind (arith, common_steps, number h, passed h);
       after = λ h.
-          let sound = c.check_staged.ensures.sound h.store in
-          commit_leaves b _ s (has c.slots_written-slots.result) (passed h) (number h) (grind (arith, common_steps)) (grind (arith, common_steps, sound, c.check_staged.ensures.same)) (search rules) (search rules) refl;
+          let sound = c.in_ok-own.ensures.sound h.store in
+          commit_leaves b _ s (has c.slots_written-slots.result) (passed h) (number h) (grind (arith, common_steps)) (grind (arith, common_steps, sound, c.in_ok-own.ensures.same)) (search rules) (search rules) refl;
       store = search rules;
     }
