@@ -10,7 +10,7 @@ use Rattle.calls.specs.Histories.{Event, event, Reached, made, history, final}
 use Rattle.calls.proofs.Steps.{run_reaches}
 use Rattle.book.specs.Runs.{said, events}
 
-events_push : (cs : List Call) (answers : List Answer) (c : Call) (a : Answer) (h : List Event) → length cs ≡ length answers → events (cs ++ c ∷ []) (answers ++ a ∷ []) h ≡ said c a ∷ events cs answers h
+pub events_push : (cs : List Call) (answers : List Answer) (c : Call) (a : Answer) (h : List Event) → length cs ≡ length answers → events (cs ++ c ∷ []) (answers ++ a ∷ []) h ≡ said c a ∷ events cs answers h
 events_push [] [] c a h e = refl
 events_push [] (p ∷ answers) c a h e = absurd (omega arith)
 events_push (d ∷ cs) [] c a h e = absurd (omega arith)
@@ -31,6 +31,9 @@ pub record Running {X Y : Type 0} (cv : X → Call) (av : Y → Answer) (calls :
   pub long : length answers ≡ i
 
 module _ {X Y : Type 0} (cv : X → Call) (av : Y → Answer) (calls : List X) (b₀ : State) where
+  pub run_start : (answers : List Y) → answers ≡ [] → Running cv av calls b₀ b₀ 0 answers
+  run_start answers e = record { past = refl; led = refl; long = ap length e }
+
   pub run_push : (b later : State) (i : ℕ) (x : X) (answers : List Y) (y : Y) (more : List Y) → i < length calls → x ≡ get_or calls i x → av y ≡ answer b (cv x) → later ≡ after b (cv x) → more ≡ answers ++ y ∷ []
       → Running cv av calls b₀ b i answers → Running cv av calls b₀ later (i + 1) more
   run_push b later i x answers y more l is told left e r =
