@@ -1,3 +1,4 @@
+pub mod Appending
 pub mod Cutting
 pub mod Numbers
 pub mod Octets

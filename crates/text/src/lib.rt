@@ -1,8 +1,10 @@
-// Numbers in text: where a text is cut, and which number its bytes write.
+// Numbers in text: where a text is cut, which number its bytes write, and how a number is written.
 //
-// A number has one text, in decimal without a leading zero: that text, and no other, reads as the number, and it is what `{}` writes.
+// A number has one text, in decimal without a leading zero: that text, and no other, reads as the number, and it is what is written.
 // Every call takes any bytes; what does not read is `None`.
 #![tactic(auto)]
+
+mod writing;
 
 ghost use Rattle.std.specs.Prelude.{◌≡◌, ℕ, ◌≤◌, ◌==◌, [], ◌∷◌, IfSome, Some, decimal};
 ghost use Rattle.std.specs.List.{position};
@@ -10,6 +12,8 @@ ghost use Rattle.std.specs.Option.{option_map};
 ghost use Rattle.text.specs.Cutting.{split, held};
 ghost use Rattle.text.specs.Numbers.{number_of, number_after, well_led};
 ghost use Rattle.text.specs.Octets.{one_digit, two_digits, three_digits, octet_of};
+
+pub use writing::push_number;
 
 // Where the first byte `at` stands.
 fn place_of(bytes: &[u8], at: u8) -> Option<usize>
