@@ -26,11 +26,18 @@ fn numbers_fit<S: Stamp>(call: Call<S>)
     }
 }
 
+// The text of a call reads as that call.
+fn text_reads_back<S: Stamp>(call: Call<S>)
+    ensures { call_of S.Stamp.reads (call_text S.Stamp.text call) ≡ Ok call }
+{
+    numbers_fit(call)
+}
+
 // What `{}` writes of a call: a line that reads as the call.
 pub fn call_text<S: Stamp>(heap: Global, call: Call<S>) -> Result<String, AllocError>
     ensures text { IfOk result (λ t. string_bytes t ≡ call_text S.Stamp.text call) }
     ensures reads_back { IfOk result (λ t. call_of S.Stamp.reads (string_bytes t) ≡ Ok call) }
 {
-    numbers_fit(call);
+    text_reads_back(call);
     call.to_string(heap)
 }
