@@ -9,13 +9,27 @@ use Rattle.rule.specs.Making.{action_number, make}
 use Rattle.rule.specs.Reading.{network_of, action_of, ports_of, fields}
 use Rattle.protocol.specs.declared.Call.{Call}
 use Rattle.protocol.specs.declared.Call.TheVariants.{Begin, Fetch, Read, Write, Drop, Forward, Commit, Abort, Learn, Receipt, Truncate}
-use Rattle.line.specs.Cutting.{placed, cut_of, rest_of}
+use Rattle.line.specs.declared.cutting.Line.{Line}
+use Rattle.line.specs.declared.cutting.Line.TheVariants.{Empty, One, Two, Three, Four, Five, Six, More, TooLong}
+use Rattle.line.specs.Cutting.{placed, is_too_long, fields_or_refusal, rest_of}
 use Rattle.line.specs.Reading.{Form, of_session, of_numbers, of_rule, of_change, of_stamp, form, form_of, numeral, first_wrong, place, refuse_or, read_form, read_fields, call_of}
 use Rattle.line.specs.Steps.{next, no_more, first_as, last_as, two_as, parts_as, rule_as, write_as, session_as, numbers_as, by_letter, letter_of, with_letter, fields_as}
 
 next_next : {X Y Z : Type 0} (m : Result X Refusal) (k : X → Result Y Refusal) (l : Y → Result Z Refusal) → next (next m k) l ≡ next m (λ x. next (k x) l)
 next_next (Ok x) k l = refl
 next_next (Err e) k l = refl
+
+-- every other case is a line that was cut
+pub not_too_long : (l : Line) → (l ≡ TooLong → ⊥) → is_too_long l ≡ false
+not_too_long Empty h = refl
+not_too_long (One a) h = refl
+not_too_long (Two a b) h = refl
+not_too_long (Three a b c) h = refl
+not_too_long (Four a b c d) h = refl
+not_too_long (Five a b c d e) h = refl
+not_too_long (Six a b c d e f) h = refl
+not_too_long (More a b c d e f g) h = refl
+not_too_long TooLong h = absurd (h refl)
 
 module _ {S : Type 0} (reads : List ℕ → Option S) (end : ℕ) where
   -- a field that is there
@@ -137,5 +151,5 @@ module _ {S : Type 0} (reads : List ℕ → Option S) (end : ℕ) where
   call_by bs false = fields_same (placed 0 (fields bs))
 
 -- a line that is cut, and then read
-pub call_same : {S : Type 0} (reads : List ℕ → Option S) (bs : List ℕ) → next (cut_of bs) (fields_as reads (length bs)) ≡ call_of reads bs
+pub call_same : {S : Type 0} (reads : List ℕ → Option S) (bs : List ℕ) → next (fields_or_refusal bs) (fields_as reads (length bs)) ≡ call_of reads bs
 call_same reads bs = call_by reads (length bs) bs (ltb 80 (length bs))

@@ -1,8 +1,8 @@
 // How a line is cut: at every space, before any field is read.
-ghost use Rattle.std.specs.Prelude.{◌≡◌, ◌+◌, ◌≤◌, [], ◌∷◌, length, Ok, Err, MatchOption, MatchResult};
+ghost use Rattle.std.specs.Prelude.{◌≡◌, ◌+◌, ◌≤◌, [], ◌∷◌, length, nat_lt, Ok, Err, MatchOption, MatchResult};
 ghost use Rattle.std.specs.Iterator.{at_most};
 ghost use Rattle.std.specs.Option.{ForSome};
-ghost use Rattle.line.specs.Cutting.{told, fields_behind, parts, cut_of};
+ghost use Rattle.line.specs.Cutting.{told, fields_behind, parts, is_too_long, cut_of, fields_or_refusal};
 
 use refusal::Refusal;
 use text::split_once;
@@ -31,6 +31,8 @@ pub enum Line<'a> {
     Six(Field<'a>, Field<'a>, Field<'a>, Field<'a>, Field<'a>, Field<'a>),
     // six fields, and the first one too many
     More(Field<'a>, Field<'a>, Field<'a>, Field<'a>, Field<'a>, Field<'a>, Field<'a>),
+    // more bytes than a line has: not cut
+    TooLong,
 }
 
 // What is still to be cut of a line.
@@ -65,38 +67,50 @@ impl<'a> Iterator for Cutter<'a> {
     }
 }
 
-// The fields of a line. One that is too long is refused at its first byte too many.
-pub fn cut(line: &[u8]) -> Result<Line<'_>, Refusal>
-    ensures { MatchResult result (λ fields. cut_of line.now ≡ Ok (parts fields)) (λ refusal. cut_of line.now ≡ Err refusal) }
+// The fields of a line, if it is not too long.
+pub fn cut(line: &[u8]) -> Line<'_>
+    ensures long { is_too_long result ≡ nat_lt 80 (length line.now) }
+    ensures fields { parts result ≡ cut_of line.now }
 {
     if line.len() > LONGEST {
-        return Err(Refusal::Unreadable { at: LONGEST as u32 });
+        return Line::TooLong;
     }
     let mut fields = Cutter {
         left: Some(Field { bytes: line, at: 0 }),
     };
     let Some(a) = fields.next() else {
-        return Ok(Line::Empty);
+        return Line::Empty;
     };
     let Some(b) = fields.next() else {
-        return Ok(Line::One(a));
+        return Line::One(a);
     };
     let Some(c) = fields.next() else {
-        return Ok(Line::Two(a, b));
+        return Line::Two(a, b);
     };
     let Some(d) = fields.next() else {
-        return Ok(Line::Three(a, b, c));
+        return Line::Three(a, b, c);
     };
     let Some(e) = fields.next() else {
-        return Ok(Line::Four(a, b, c, d));
+        return Line::Four(a, b, c, d);
     };
     let Some(f) = fields.next() else {
-        return Ok(Line::Five(a, b, c, d, e));
+        return Line::Five(a, b, c, d, e);
     };
     let Some(g) = fields.next() else {
-        return Ok(Line::Six(a, b, c, d, e, f));
+        return Line::Six(a, b, c, d, e, f);
     };
-    Ok(Line::More(a, b, c, d, e, f, g))
+    Line::More(a, b, c, d, e, f, g)
+}
+
+// The fields of a line. One that is too long is refused at its first byte too many.
+#[tactic(auto, using(crate::proofs::Stepping::not_too_long))]
+pub fn cut_fields(line: &[u8]) -> Result<Line<'_>, Refusal>
+    ensures { MatchResult result (λ fields. fields_or_refusal line.now ≡ Ok (parts fields)) (λ refusal. fields_or_refusal line.now ≡ Err refusal) }
+{
+    match cut(line) {
+        Line::TooLong => Err(Refusal::Unreadable { at: LONGEST as u32 }),
+        fields => Ok(fields),
+    }
 }
 
 impl<'a> Line<'a> {
@@ -106,7 +120,7 @@ impl<'a> Line<'a> {
         ensures { MatchOption result (parts self.entry ≡ []) (λ r. parts self.entry ≡ told r.0 ∷ parts r.1) }
     {
         match self {
-            Line::Empty => None,
+            Line::Empty | Line::TooLong => None,
             Line::One(a) => Some((a, Line::Empty)),
             Line::Two(a, b) => Some((a, Line::One(b))),
             Line::Three(a, b, c) => Some((a, Line::Two(b, c))),

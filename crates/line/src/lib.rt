@@ -9,6 +9,6 @@ mod fields;
 mod reading;
 mod texts;
 
-pub use cutting::{Field, LONGEST, Line, cut};
+pub use cutting::{Field, LONGEST, Line, cut, cut_fields};
 pub use reading::read_call;
 pub use texts::call_text;

@@ -6,7 +6,7 @@ ghost use Rattle.line.specs.Cutting.{parts};
 ghost use Rattle.line.specs.Reading.{numeral, call_of};
 ghost use Rattle.line.specs.Steps.{last_as, two_as, rule_as, by_letter, fields_as};
 
-use crate::cutting::cut;
+use crate::cutting::cut_fields;
 use crate::fields::Fields;
 use protocol::Call;
 use refusal::Refusal;
@@ -148,7 +148,7 @@ pub fn read_call<S: Stamp>(line: &[u8]) -> Result<Call<S>, Refusal>
     ensures one_text { (call : Call S) → result ≡ Ok call → line.now ≡ call_text S.Stamp.text call }
     ensures reads_back { (call : Call S) → Fits call → line.now ≡ call_text S.Stamp.text call → result ≡ Ok call }
 {
-    let left = cut(line)?;
+    let left = cut_fields(line)?;
     let end = line.len() as u32;
     fields_in::<S>(Fields { left, end })
 }
