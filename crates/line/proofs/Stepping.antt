@@ -1,5 +1,7 @@
 -- A call read field by field is the call or the refusal that its line reads as. Assumes nothing.
-use Rattle.std.proofs.Common.{◌≡◌, ℕ, Bool, true, false, cond, eqb, ltb, List, [], ◌∷◌, length, take, is_some, Some, None, Ok, Err, Option, Result, sym, refl, ap, ◌∙◌}
+use Rattle.std.proofs.Common.{◌≡◌, ℕ, ◌≤◌, Bool, true, false, cond, eqb, ltb, List, [], ◌∷◌, length, take, is_some, Some, None, Ok, Err, Option, Result, sym, refl, ap, ◌∙◌, arith}
+use Rattle.std.proofs.lemmas.Bool.{cond-false}
+use Rattle.std.proofs.lemmas.Bool.Decides.{nat_tests}
 use Rattle.std.specs.Option.{option_map, ok_or}
 use Rattle.text.specs.Steps.{and_then}
 use Rattle.refusal.specs.declared.Refusal.{Refusal}
@@ -136,15 +138,25 @@ module _ {S : Type 0} (reads : List ℕ → Option S) (end : ℕ) where
   letter_take b (f ∷ g ∷ h ∷ i ∷ j ∷ []) = refl
   letter_take b (f ∷ g ∷ h ∷ i ∷ j ∷ k ∷ fs) = refl
 
-  with_same : (f : List ℕ) (fs : List (ℕ × List ℕ)) → with_letter reads end (letter_of f) (take 6 fs) ≡ read_form reads end (form_of f) fs
+  with_same : (f : List ℕ) (fs : List (ℕ × List ℕ)) → with_letter reads end (letter_of f) fs ≡ read_form reads end (form_of f) fs
   with_same [] fs = refl
-  with_same (b ∷ []) fs = letter_take b fs ∙ letter_same b fs
+  with_same (b ∷ []) fs = letter_same b fs
   with_same (b ∷ c ∷ bs) fs = refl
 
-  -- read step by step, of the fields up to the seventh
-  fields_same : (fs : List (ℕ × List ℕ)) → fields_as reads end (take 7 fs) ≡ read_fields reads end fs
+  -- read step by step
+  pub read_same : (fs : List (ℕ × List ℕ)) → fields_as reads end fs ≡ read_fields reads end fs
+  read_same [] = refl
+  read_same (f ∷ fs) = with_same f.1 fs
+
+  with_take : (f : List ℕ) (fs : List (ℕ × List ℕ)) → with_letter reads end (letter_of f) (take 6 fs) ≡ with_letter reads end (letter_of f) fs
+  with_take [] fs = refl
+  with_take (b ∷ []) fs = letter_take b fs
+  with_take (b ∷ c ∷ bs) fs = refl
+
+  -- and so of the fields up to the seventh
+  pub fields_same : (fs : List (ℕ × List ℕ)) → fields_as reads end (take 7 fs) ≡ read_fields reads end fs
   fields_same [] = refl
-  fields_same (f ∷ fs) = with_same f.1 fs
+  fields_same (f ∷ fs) = with_take f.1 fs ∙ with_same f.1 fs
 
   call_by : (bs : List ℕ) (t : Bool) → next (cond t (Err (Unreadable 80)) (Ok (take 7 (placed 0 (fields bs))))) (fields_as reads end) ≡ cond t (Err (Unreadable 80)) (read_fields reads end (placed 0 (fields bs)))
   call_by bs true = refl
@@ -153,3 +165,10 @@ module _ {S : Type 0} (reads : List ℕ → Option S) (end : ℕ) where
 -- a line that is cut, and then read
 pub call_same : {S : Type 0} (reads : List ℕ → Option S) (bs : List ℕ) → next (fields_or_refusal bs) (fields_as reads (length bs)) ≡ call_of reads bs
 call_same reads bs = call_by reads (length bs) bs (ltb 80 (length bs))
+
+-- a line that is cut while it is read
+pub call_read : {S : Type 0} (reads : List ℕ → Option S) (bs : List ℕ) → length bs ≤ 80 → fields_as reads (length bs) (placed 0 (fields bs)) ≡ call_of reads bs
+call_read reads bs h =
+    let within : ltb 80 (length bs) ≡ false = grind (arith, nat_tests) in
+    read_same reads (length bs) (placed 0 (fields bs))
+    ∙ sym (cond-false (ltb 80 (length bs)) (Err (Unreadable 80)) (read_fields reads (length bs) (placed 0 (fields bs))) within)

@@ -1,3 +1,4 @@
 pub mod Cutting
+pub mod Left
 pub mod Reading
 pub mod Steps

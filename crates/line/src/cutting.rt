@@ -1,8 +1,9 @@
-// How a line is cut: at every space, before any field is read.
+// How a line is cut: at every space.
 ghost use Rattle.std.specs.Prelude.{◌≡◌, ◌+◌, ◌≤◌, [], ◌∷◌, length, nat_lt, Ok, Err, MatchOption, MatchResult};
 ghost use Rattle.std.specs.Iterator.{at_most};
 ghost use Rattle.std.specs.Option.{ForSome};
-ghost use Rattle.line.specs.Cutting.{told, fields_behind, parts, is_too_long, cut_of, fields_or_refusal};
+ghost use Rattle.rule.specs.Reading.{fields};
+ghost use Rattle.line.specs.Cutting.{placed, told, fields_behind, parts, is_too_long, cut_of, fields_or_refusal};
 
 use refusal::Refusal;
 use text::split_once;
@@ -37,9 +38,21 @@ pub enum Line<'a> {
 
 // What is still to be cut of a line.
 #[derive(Drop)]
-struct Cutter<'a> {
-    left: Option<Field<'a>>,
+pub(crate) struct Cutter<'a> {
+    pub left: Option<Field<'a>>,
     ghost short: { ForSome left (λ part. part.at + length part.bytes.now ≤ 80) },
+}
+
+impl<'a> Cutter<'a> {
+    // All of a line.
+    pub fn new(line: &'a [u8]) -> Cutter<'a>
+        requires { length line.now ≤ 80 }
+        ensures { fields_behind result.left ≡ placed 0 (fields line.now) }
+    {
+        Cutter {
+            left: Some(Field { bytes: line, at: 0 }),
+        }
+    }
 }
 
 impl<'a> Iterator for Cutter<'a> {
@@ -75,9 +88,7 @@ pub fn cut(line: &[u8]) -> Line<'_>
     if line.len() > LONGEST {
         return Line::TooLong;
     }
-    let mut fields = Cutter {
-        left: Some(Field { bytes: line, at: 0 }),
-    };
+    let mut fields = Cutter::new(line);
     let Some(a) = fields.next() else {
         return Line::Empty;
     };
@@ -110,24 +121,5 @@ pub fn cut_fields(line: &[u8]) -> Result<Line<'_>, Refusal>
     match cut(line) {
         Line::TooLong => Err(Refusal::Unreadable { at: LONGEST as u32 }),
         fields => Ok(fields),
-    }
-}
-
-impl<'a> Line<'a> {
-    // The first field, and the line without it.
-    #[inline(always)]
-    pub(crate) fn split_first(self) -> Option<(Field<'a>, Line<'a>)>
-        ensures { MatchOption result (parts self.entry ≡ []) (λ r. parts self.entry ≡ told r.0 ∷ parts r.1) }
-    {
-        match self {
-            Line::Empty | Line::TooLong => None,
-            Line::One(a) => Some((a, Line::Empty)),
-            Line::Two(a, b) => Some((a, Line::One(b))),
-            Line::Three(a, b, c) => Some((a, Line::Two(b, c))),
-            Line::Four(a, b, c, d) => Some((a, Line::Three(b, c, d))),
-            Line::Five(a, b, c, d, e) => Some((a, Line::Four(b, c, d, e))),
-            Line::Six(a, b, c, d, e, f) => Some((a, Line::Five(b, c, d, e, f))),
-            Line::More(a, b, c, d, e, f, g) => Some((a, Line::Six(b, c, d, e, f, g))),
-        }
     }
 }

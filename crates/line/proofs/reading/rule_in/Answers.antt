@@ -16,5 +16,5 @@ told_at Told at is None (Err y) (Err x) e h = ap Err (is y x h)
 
 pub returns : goal.returns
 returns c =
-    let made = told_at _ c.in_ok-network.network.at (λ e d h. search rules) _ _ _ c.try_from.ensures.value c.map_err.ensures.cases in
+    let made = told_at _ c.place-at.result (λ e d h. search rules) _ _ _ c.try_from.ensures.value c.map_err.ensures.cases in
     search rules
