@@ -1,9 +1,12 @@
 // How a refusal is written: its three numbers, and its cause in words.
 ghost use Rattle.std.specs.Prelude.{◌≡◌, Some};
+ghost use Rattle.text.specs.Appending.{Appends};
 ghost use Rattle.refusal.specs.Table.{line, words, fault_words};
 
 use crate::{Fault, Refusal};
+use std::alloc::AllocError;
 use std::fmt;
+use text::push_number;
 
 impl fmt::Display for Refusal {
     ghost output = { λ r. Some (line r) };
@@ -32,6 +35,17 @@ impl Fault {
 }
 
 impl Refusal {
+    // Writes the three numbers behind what was written before.
+    pub fn push_text(self, out: &mut Vec<u8>) -> Result<(), AllocError>
+        ensures { Appends out.old.items (line self) result out.new.items }
+    {
+        push_number(out, u64::from(self.number()))?;
+        out.push(b' ')?;
+        push_number(out, u64::from(self.layer().number()))?;
+        out.push(b' ')?;
+        push_number(out, u64::from(self.place()))
+    }
+
     pub fn meaning(self) -> &'static str
         ensures { result.now ≡ words self }
     {
