@@ -41,6 +41,18 @@ same : (b : Bool) (p : Session) → cond b p p ≡ p
 same true p = refl
 same false p = refl
 
+-- a session changed at a slot, if it is one
+slot_apart : (rs : List Record) (s x : ℕ) (f : Session → Session) → below 8 s (changed s (below 64 x f)) (sessions_of rs) ≡ below 8 s (below 64 x (changed s f)) (sessions_of rs)
+slot_apart rs s x f = ap (λ g. cond (ltb s 8) g (sessions_of rs)) (fun_ext (λ t. apart (ltb x 64) t))
+  where
+    apart : (b : Bool) (t : ℕ) → changed s (λ p. cond b (f p) p) (sessions_of rs) t ≡ cond b (changed s f (sessions_of rs)) (sessions_of rs) t
+    apart true t = refl
+    apart false t = same (eqb t s) (sessions_of rs t)
+
+-- a record changed at a slot, if it is one
+pub write_slot : (rs : List Record) (s : ℕ) (r d : Record) (x : ℕ) (f : Session → Session) → s < 8 → s < length rs → view r ≡ below 64 x f (view (get_or rs s d)) → sessions_of (set rs s r) ≡ below 8 s (below 64 x (changed s f)) (sessions_of rs)
+write_slot rs s r d x f k l e = write_record rs s r d (below 64 x f) k l e ∙ slot_apart rs s x f
+
 -- a call that does to a record what f does to a session
 pub record_changed : {R : Type 0} {call : Record → R → Record → Type 0} {old new : List Record} {s : ℕ} {o : Option R} (f : Session → Session) → Changed call old new s o → ((a : Record) (r : R) (b : Record) → call a r b → view b ≡ f (view a)) → sessions_of new ≡ below 8 s (changed s f) (sessions_of old)
 record_changed {old = old} {new = new} {s = s} f c does = ⊎_elim inner outer (cases_lt s 8)
@@ -54,11 +66,7 @@ record_changed {old = old} {new = new} {s = s} f c does = ⊎_elim inner outer (
     outer l = cond_above s 8 _ _ _ l (ap sessions_of (c.outside l).1)
 
 pub slot_changed : {R : Type 0} {call : Record → R → Record → Type 0} {old new : List Record} {s : ℕ} {o : Option R} (x : ℕ) (f : Session → Session) → Changed call old new s o → ((a : Record) (r : R) (b : Record) → call a r b → view b ≡ below 64 x f (view a)) → sessions_of new ≡ below 8 s (below 64 x (changed s f)) (sessions_of old)
-slot_changed {old = old} {s = s} x f c does = record_changed (below 64 x f) c does ∙ ap (λ g. cond (ltb s 8) g (sessions_of old)) (fun_ext (λ t. apart (ltb x 64) t))
-  where
-    apart : (b : Bool) (t : ℕ) → changed s (λ p. cond b (f p) p) (sessions_of old) t ≡ cond b (changed s f (sessions_of old)) (sessions_of old) t
-    apart true t = refl
-    apart false t = same (eqb t s) (sessions_of old t)
+slot_changed {old = old} {s = s} x f c does = record_changed (below 64 x f) c does ∙ slot_apart old s x f
 
 -- a call that gives what g says of a session; of a session that has done nothing, where there is no such session
 pub given_is : {R : Type 0} {call : Record → R → Record → Type 0} {old new : List Record} {s : ℕ} {o : Option R} (g : Session → R) → Changed call old new s o → ((a : Record) (r : R) (b : Record) → call a r b → r ≡ g (view a)) → unwrap_or o (g fresh) ≡ g (sessions_of old s)

@@ -7,7 +7,7 @@ ghost use Rattle.slots.specs.Meaning.{has};
 ghost use Rattle.tables.specs.Meaning.{below};
 ghost use Rattle.law.specs.Accounts.{changed};
 ghost use Rattle.calls.specs.State.{fresh};
-ghost use Rattle.calls.specs.Effects.{begun, fetched, having_read, having_written, dropped, put_forward, aborted, having_learnt, receipted, ends_change};
+ghost use Rattle.calls.specs.Effects.{begun, fetched, having_read, having_written, dropped, put_forward, committed, notified, aborted, having_learnt, receipted, ends_change};
 ghost use Rattle.session.specs.Views.{view, sessions_of, after_commit, Changed};
 
 use crate::Record;
@@ -86,6 +86,18 @@ impl Sessions {
         self.change(session, |record| record.receipt(number));
     }
 
+    fn finish(&mut self, session: u32)
+        ensures { sessions_of self.new.records ≡ below 8 session (changed session committed) (sessions_of self.old.records) }
+    {
+        self.change(session, |record| record.commit());
+    }
+
+    fn notify(&mut self, session: u32, slots: SlotSet, number: u32)
+        ensures { sessions_of self.new.records ≡ below 8 session (changed session (notified (has slots) number)) (sessions_of self.old.records) }
+    {
+        self.change(session, |record| record.notify(slots, number));
+    }
+
     // Copies with a notice are dropped, and an open change that read one of them ends: is that so?
     pub fn learn(&mut self, session: u32, count: u32, number: u32) -> bool
         ensures after { sessions_of self.new.records ≡ below 8 session (changed session (having_learnt count number)) (sessions_of self.old.records) }
@@ -99,11 +111,11 @@ impl Sessions {
     pub fn commit(&mut self, session: u32, slots: SlotSet, number: u32)
         ensures { sessions_of self.new.records ≡ after_commit session (has slots) number (sessions_of self.old.records) }
     {
-        for (other, record) in self.records.iter_mut().enumerate() {
-            if other as u32 == session {
-                record.commit();
+        for other in 0..SESSIONS {
+            if other == session {
+                self.finish(other);
             } else {
-                record.notify(slots, number);
+                self.notify(other, slots, number);
             }
         }
     }

@@ -1,5 +1,5 @@
 -- Laws of sets of slots, for every bound. Assumes nothing.
-use Rattle.std.proofs.Common.{◌≡◌, ℕ, zero, suc, ◌+◌, ◌<◌, ◌≤◌, Bool, true, false, cond, not, ◌&&◌, ◌||◌, eqb, ◌⊎◌, Some, None, Decides, Option, sym, refl, ap, ◌∙◌, ap₂, inl, inr, ⊎_elim, arith}
+use Rattle.std.proofs.Common.{◌≡◌, ℕ, zero, suc, ◌+◌, ◌<◌, ◌≤◌, Bool, true, false, cond, not, ◌&&◌, ◌||◌, eqb, ltb, ◌⊎◌, Some, None, Decides, Option, sym, refl, ap, ◌∙◌, ap₂, inl, inr, ⊎_elim, add-one, arith}
 use mathlib.Core.Path.{fun_ext}
 use mathlib.Core.Bool.{and_comm, and-true, or-false}
 use Rattle.std.proofs.lemmas.Bool.{both_ways, eq-eqb, ne_eqb, lt-ltb, le-ltb, and_parts, and_from, and_left, and_right, or_left, or_right, or_cases, or_from, not_from_true, cases_lt, cases_eq, cases_Bool}
@@ -9,6 +9,9 @@ use Rattle.slots.specs.Sets.{none, alone, either, both, without, inserted, remov
 
 pub none_at : (y : ℕ) → none y ≡ false
 none_at y = refl
+
+pub alone_at : (x y : ℕ) → alone x y ≡ (eqb y x && ltb x 64)
+alone_at x y = refl
 
 pub either_at : (f g : ℕ → Bool) (y : ℕ) → either f g y ≡ (f y || g y)
 either_at f g y = refl
@@ -41,6 +44,9 @@ inserted_other f x y ne = either_at f (alone x) y ∙ ap (λ b. f y || b) (alone
 pub inserted_outside : (f : ℕ → Bool) (x : ℕ) → 64 ≤ x → inserted f x ≡ f
 inserted_outside f x h = fun_ext (λ y. either_at f (alone x) y ∙ ap (λ b. f y || b) (ap (λ g. g y) (alone_outside x h) ∙ none_at y) ∙ or-false (f y))
 
+pub inserted_at : (f : ℕ → Bool) (x y : ℕ) → inserted f x y ≡ (f y || (eqb y x && ltb x 64))
+inserted_at f x y = refl
+
 -- a slot is not in the set that it was removed from
 pub removed_same : (f : ℕ → Bool) (x : ℕ) → x < 64 → removed f x x ≡ false
 removed_same f x h = without_at f (alone x) x ∙ and_right (f x) _ (not_from_true _ (alone_same x h))
@@ -52,7 +58,18 @@ removed_other f x y ne = without_at f (alone x) y ∙ ap (λ b. f y && not b) (a
 pub removed_outside : (f : ℕ → Bool) (x : ℕ) → 64 ≤ x → removed f x ≡ f
 removed_outside f x h = fun_ext (λ y. without_at f (alone x) y ∙ ap (λ b. f y && not b) (ap (λ g. g y) (alone_outside x h) ∙ none_at y) ∙ and-true (f y))
 
+pub removed_at : (f : ℕ → Bool) (x y : ℕ) → removed f x y ≡ (f y && not (eqb y x && ltb x 64))
+removed_at f x y = refl
+
 -- ---- any
+
+pub any_start : (f : ℕ → Bool) → any_below 0 f ≡ false
+unfolding any_below
+any_start f = refl
+
+pub any_more : (n : ℕ) (f : ℕ → Bool) → any_below (n + 1) f ≡ (any_below n f || f n)
+unfolding any_below
+any_more n f = ap (λ m. any_below m f) (add-one n)
 
 pub any_from : (n : ℕ) (f : ℕ → Bool) (x : ℕ) → x < n → f x ≡ true → any_below n f ≡ true
 unfolding any_below
@@ -155,6 +172,15 @@ pub lowest_least : (f : ℕ → Bool) (x : ℕ) → least f ≡ Some x → Lowes
 lowest_least f x e = let s = least_some 64 f x e in record { inside = s.0; member = s.1; first = s.2 }
 
 -- ---- how many
+
+-- a loop over the slots from 0 on
+pub tally_start : (f : ℕ → Bool) → tally_below 0 f ≡ 0
+unfolding tally_below
+tally_start f = refl
+
+pub tally_more : (n : ℕ) (f : ℕ → Bool) → tally_below (n + 1) f ≡ tally_below n f + cond (f n) 1 0
+unfolding tally_below
+tally_more n f = ap (λ m. tally_below m f) (add-one n)
 
 -- two sets alike below n have as many numbers below it
 pub tally_same : (n : ℕ) (f g : ℕ → Bool) → ((x : ℕ) → x < n → f x ≡ g x) → tally_below n f ≡ tally_below n g

@@ -4,11 +4,11 @@ use mathlib.Core.Path.{fun_ext}
 use Rattle.std.specs.Option.{option_or}
 use Rattle.std.proofs.lemmas.Bool.{cases_lt, cases_eq, cond_below, cond_above}
 use Rattle.slots.specs.declared.SlotSet.{SlotSet}
-use Rattle.slots.specs.Sets.{none, inserted, Lowest}
+use Rattle.slots.specs.Sets.{none, both, inserted, Lowest}
 use Rattle.slots.specs.Meaning.{has}
-use Rattle.slots.proofs.Sets.{none_at, inserted_same, inserted_other, inserted_outside}
+use Rattle.slots.proofs.Sets.{none_at, both_at, inserted_same, inserted_other, inserted_outside}
 use Rattle.law.specs.Accounts.{changed}
-use Rattle.tables.specs.Meaning.{below}
+use Rattle.tables.specs.Meaning.{below, shared}
 use Rattle.tables.proofs.Tables.{changed_here, changed_other}
 use Rattle.calls.specs.Sets.{lowest}
 
@@ -36,6 +36,12 @@ lowest_outside n x s l low = lowest_none n (has s) (λ y k. low.first y (omega a
 
 pub lowest_empty : (n : ℕ) (s : SlotSet) → has s ≡ none → lowest n (has s) ≡ None
 lowest_empty n s e = lowest_none n (has s) (λ x l. ap (λ f. f x) e ∙ none_at x)
+
+pub both_is : (f g : ℕ → Bool) → both f g ≡ shared f g
+both_is f g = fun_ext (λ x. both_at f g x)
+
+pub none_is : none ≡ (λ _. false)
+none_is = fun_ext none_at
 
 pub inserted_is : (f : ℕ → Bool) (x : ℕ) → inserted f x ≡ below 64 x (changed x (λ _. true)) f
 inserted_is f x = ⊎_elim

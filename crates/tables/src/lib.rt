@@ -7,22 +7,27 @@
 
 mod sets;
 
-ghost use Rattle.std.specs.Prelude.{◌≡◌, Some, None, ⊤};
+ghost use Rattle.std.specs.Prelude.{◌≡◌, ℕ, true, length, is_some, Some, None, IfSome, ⊤};
+ghost use Rattle.std.proofs.Props.{props};
 ghost use Rattle.slots.specs.Meaning.{has};
 ghost use Rattle.law.specs.Accounts.{changed};
 ghost use Rattle.calls.specs.Effects.{up_to_gone};
-ghost use Rattle.tables.specs.Meaning.{at, below, filled, replaced, marked, cleared, overlaid};
 
-pub use sets::{any_below, lowest_below, meets_below};
+pub use sets::{any_below, common, lowest_below, meets_below, no_slots, with_slot};
 use slots::{SLOTS, SlotSet};
 use std::alloc::AllocError;
 
 // No `impl Model`: a table means a function of the slot, and the value of a model has to be data.
 pub struct SlotMap<T> {
-    values: [Option<T>; 64],
+    // the slots that have a value
+    slots: SlotSet,
+    // made when the first value is put; what stands where no slot has a value is never given out
+    values: Option<[T; 64]>,
+    ghost made: { (x : ℕ) → has slots x ≡ true → is_some values ≡ true },
+    ghost full: { IfSome values (λ vs. length vs ≡ 64) } by { Prim.hlevel props },
 }
 
-// By hand: the size of the array, which a derived `clone` has to show to be small enough, depends on the type.
+// By hand, since `Clone` cannot be derived beside a ghost field.
 impl<T: Copy> Clone for SlotMap<T> {
     ghost is_clone = { λ x y. y ≡ x };
 
@@ -36,100 +41,106 @@ impl<T: Copy> Clone for SlotMap<T> {
 impl<T: Copy> Copy for SlotMap<T> {}
 
 impl<T: Copy> SlotMap<T> {
+    ghost use Rattle.tables.specs.Meaning.{at, below, filled, marked, cleared, overlaid};
+
     // No slot has a value.
-    #[tactic(auto, using(crate::proofs::Tables::at_new))]
     pub fn new() -> SlotMap<T>
         ensures { at result ≡ (λ _. None) }
     {
-        SlotMap { values: [None; 64] }
+        SlotMap {
+            slots: SlotSet::new(),
+            values: None,
+        }
     }
 
     // The slots that have a value.
     pub fn slots(&self) -> SlotSet
         ensures { has result ≡ filled (at self.now) }
     {
-        let mut filled = SlotSet::new();
-        for (slot, value) in self.values.iter().enumerate() {
-            if value.is_some() {
-                filled.insert(slot as u32);
-            }
-        }
+        let filled = self.slots;
         filled
     }
 
-    #[tactic(auto, using(crate::proofs::Tables::at_inside, crate::proofs::Tables::at_outside))]
     pub fn get(&self, slot: u32) -> Option<T>
         ensures { result ≡ at self.now slot }
     {
-        *self.values.get(slot as usize)?
+        if slot >= SLOTS {
+            return None;
+        }
+        if !self.slots.contains(slot) {
+            return None;
+        }
+        match &self.values {
+            Some(values) => Some(values[slot as usize]),
+            None => None,
+        }
     }
 
     pub fn put(&mut self, slot: u32, value: T)
         ensures { at self.new ≡ below 64 slot (changed slot (λ _. Some value)) (at self.old) }
     {
-        self.set(slot, Some(value));
+        if slot < SLOTS {
+            match &mut self.values {
+                Some(values) => values[slot as usize] = value,
+                None => self.values = Some([value; 64]),
+            }
+            self.slots.insert(slot);
+        }
     }
 
     pub fn remove(&mut self, slot: u32)
         ensures { at self.new ≡ below 64 slot (changed slot (λ _. None)) (at self.old) }
     {
-        self.set(slot, None);
+        self.slots.remove(slot);
     }
 
     pub fn clear(&mut self)
         ensures { at self.new ≡ (λ _. None) }
     {
-        *self = SlotMap::new();
+        self.slots = SlotSet::new();
     }
 
     // The slots of a set lose their values.
     pub fn clear_all(&mut self, set: SlotSet)
         ensures { at self.new ≡ cleared (has set) (at self.old) }
     {
-        self.set_all(set, None);
+        self.slots = self.slots.difference(set);
     }
 
     // The slots of a set get this value.
     pub fn mark(&mut self, set: SlotSet, value: T)
         ensures { at self.new ≡ marked (has set) value (at self.old) }
     {
-        self.set_all(set, Some(value));
+        for slot in set.iter() {
+            self.put(slot, value);
+        }
     }
 
     // The values of another table come over those of this one.
     pub fn overlay(&mut self, over: &SlotMap<T>)
         ensures { at self.new ≡ overlaid (at over.now) (at self.old) }
     {
-        for (slot, value) in self.values.iter_mut().enumerate() {
-            *value = over.get(slot as u32).or(*value);
-        }
-    }
-
-    // What is no slot is left as it is. By index, since the contract of `get_mut` does not say what the array becomes.
-    fn set(&mut self, slot: u32, value: Option<T>)
-        ensures { at self.new ≡ below 64 slot (changed slot (λ _. value)) (at self.old) }
-    {
-        if slot < SLOTS {
-            self.values[slot as usize] = value;
-        }
-    }
-
-    fn set_all(&mut self, set: SlotSet, value: Option<T>)
-        ensures { at self.new ≡ replaced (has set) value (at self.old) }
-    {
-        for slot in set.iter() {
-            self.set(slot, value);
+        for slot in over.slots.iter() {
+            if let Some(value) = over.get(slot) {
+                self.put(slot, value);
+            }
         }
     }
 }
 
 impl SlotMap<u32> {
+    ghost use Rattle.tables.specs.Meaning.{at};
+
     // The slots with a number up to this one lose it.
     pub fn forget(&mut self, number: u32)
         ensures { at self.new ≡ (λ x. up_to_gone number (at self.old x)) }
     {
-        for value in self.values.iter_mut() {
-            *value = value.filter(|k| *k > number);
+        for slot in self.slots.iter() {
+            if let Some(k) = self.get(slot) {
+                if k <= number {
+                    self.remove(slot);
+                }
+            }
         }
     }
 }

@@ -5,6 +5,4 @@ use Rattle.session.specs.Views.{sessions_of, after_commit}
 use Rattle.session.proofs.table.Sessions.commit.Given as goal
 
 abbrev pub invariant-loop-other : goal.invariant-loop-other
-invariant-loop-other l =
-    let old = sessions_of l.initial.record-items in
-    sessions_of l.record-items ≡ upto l.other (after_commit l.session (has l.slots) l.number old) old
+invariant-loop-other l = sessions_of l.self.records ≡ upto l.other (after_commit l.session (has l.slots) l.number (sessions_of l.initial.self.records)) (sessions_of l.initial.self.records)
