@@ -49,17 +49,17 @@ impl<'a> Script<'a> {
         requires { F.IsAlwaysCallable answer_to }
     {
         let mut asked = Vec::new(rt.alloc());
-        let mut written = String::new(rt.alloc());
+        let mut written = Vec::new(rt.alloc());
         // no script has more lines
         for line in 1..u64::MAX {
             if !self.read_line(rt, &mut asked)? {
                 break;
             }
             let answer = answer_to(asked.as_slice())?;
-            let told = AnswerLine { line, answer };
             written.clear();
-            writeln!(written, "{told}")?;
-            write_out(rt, written.as_bytes())?;
+            AnswerLine { line, answer }.push_text(&mut written)?;
+            written.push(b'\n')?;
+            write_out(rt, written.as_slice())?;
         }
         Ok(())
     }

@@ -11,6 +11,9 @@ use std::test::Fail;
 fn check_text(rt: &impl Abort, heap: Global, answer: Answer, text: &str) -> Result<(), Fail> {
     let line = AnswerLine { line: 9, answer };
     assert_eq!(rt; line.to_string(heap)?.as_str(), text);
+    let mut written = Vec::new(heap);
+    line.push_text(&mut written)?;
+    assert_eq!(rt; written.as_slice(), text.as_bytes());
     Ok(())
 }
 
