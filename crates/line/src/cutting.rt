@@ -45,7 +45,7 @@ pub(crate) struct Cutter<'a> {
 
 impl<'a> Cutter<'a> {
     // All of a line.
-    pub fn new(line: &'a [u8]) -> Cutter<'a>
+    pub(crate) fn new(line: &'a [u8]) -> Cutter<'a>
         requires { length line.now ≤ 80 }
         ensures { fields_behind result.left ≡ placed 0 (fields line.now) }
     {

@@ -21,7 +21,7 @@ pub(crate) struct Fields<'a> {
 
 impl<'a> Fields<'a> {
     // All the fields of a line.
-    pub fn new(line: &'a [u8]) -> Fields<'a>
+    pub(crate) fn new(line: &'a [u8]) -> Fields<'a>
         requires { length line.now ≤ 80 }
         ensures fields { fields_left result ≡ placed 0 (fields line.now) }
         ensures end { result.end ≡ length line.now }
@@ -33,7 +33,7 @@ impl<'a> Fields<'a> {
     }
 
     // The next field, which is then no longer left.
-    pub fn next_field(&mut self) -> Result<Field<'a>, Refusal>
+    pub(crate) fn next_field(&mut self) -> Result<Field<'a>, Refusal>
         ensures next { MatchResult result (λ f. fields_left self.old ≡ told f ∷ fields_left self.new) (λ e. (fields_left self.old ≡ []) × (e ≡ Unreadable self.old.end)) }
         ensures taken { OneTaken self.old self.new }
     {
@@ -44,7 +44,7 @@ impl<'a> Fields<'a> {
 
     // Where the next field begins.
     #[tactic(auto, using(crate::proofs::Cuts::first_place))]
-    pub fn place(&self) -> u32
+    pub(crate) fn place(&self) -> u32
         ensures { result ≡ place 0 (fields_left self.now) }
     {
         match self.cutter.left {
@@ -54,7 +54,7 @@ impl<'a> Fields<'a> {
     }
 
     // No field is left.
-    pub fn no_more(&mut self) -> Result<(), Refusal>
+    pub(crate) fn no_more(&mut self) -> Result<(), Refusal>
         ensures { result ≡ no_more (fields_left self.old) }
     {
         match self.cutter.next() {
